@@ -1,0 +1,16 @@
+pub mod Ring
+pub mod Orders
+pub mod Divisors
+pub mod CrossLaws
+pub mod SumSteps
+pub mod TermLaws
+pub mod Dense
+pub mod RowProducts
+pub mod Worth
+pub mod Sames
+pub mod Telling
+pub mod Gcds
+pub mod Reduced
+pub mod Lowest
+pub mod Wholes
+pub mod RowLaws

@@ -1,0 +1,49 @@
+ghost use Rattle.std.specs.Prelude.{◌≡◌, pos, ◌<ℤ◌, ◌*ℤ◌, int_div, unsigned_abs};
+ghost use Rattle.std.specs.Int.{IsGcd, ◌∣◌};
+ghost use Rattle.zr_base.specs.Fractions.{ratio};
+ghost use Rattle.zr_base.specs.Lowest.{IsRatio, IsLowest, gcd_of, reduce};
+
+/// The greatest common divisor.
+pub fn gcd(a: u128, b: u128) -> u128
+    ensures gcd { IsGcd a b result }
+    ensures value { result ≡ gcd_of a b }
+{
+    let mut x = a;
+    let mut y = b;
+    while y != 0 {
+        let rest = x % y;
+        x = y;
+        y = rest;
+    }
+    x
+}
+
+/// The greatest common divisor of a numerator and a denominator, at least 1.
+fn common(num: i128, den: i128) -> i128
+    requires { IsRatio num den }
+    ensures positive { pos 0 <ℤ result }
+    ensures gcd { IsGcd (unsigned_abs num) (unsigned_abs den) (unsigned_abs result) }
+    ensures value { result ≡ pos (gcd_of (unsigned_abs num) (unsigned_abs den)) }
+{
+    gcd(num.unsigned_abs(), den.unsigned_abs()) as i128
+}
+
+/// What is left of a number where a divisor is taken out.
+pub fn divided(a: i128, by: i128) -> i128
+    requires positive { pos 0 <ℤ by }
+    requires divides { unsigned_abs by ∣ unsigned_abs a }
+    ensures value { result ≡ int_div a by }
+    ensures exact { result *ℤ by ≡ a }
+{
+    a / by
+}
+
+/// Both numbers without their greatest common divisor.
+pub(crate) fn lowest_terms(num: i128, den: i128) -> (i128, i128)
+    requires { IsRatio num den }
+    ensures value { ratio result.0 result.1 ≡ reduce num den }
+    ensures lowest { IsLowest (ratio result.0 result.1) }
+{
+    let shared = common(num, den);
+    (divided(num, shared), divided(den, shared))
+}
