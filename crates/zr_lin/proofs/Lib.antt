@@ -1,0 +1,12 @@
+pub mod Below
+pub mod Scaling
+pub mod Combining
+pub mod Members
+pub mod OneColumn
+pub mod Elimination
+pub mod Alternative
+pub mod Multipliers
+pub mod SparseRows
+pub mod RowStep
+pub mod MoreRows
+pub mod Summed

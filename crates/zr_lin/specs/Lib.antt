@@ -1,0 +1,3 @@
+pub mod DenseRows
+pub mod Ineqs
+pub mod Combinations
