@@ -1,0 +1,124 @@
+-- What the basic form of a basis says of its basic solution and of its basic directions.
+use Rattle.std.proofs.Common.{◌≡◌, ◌≢◌, ℕ, zero, suc, ◌+◌, ◌<◌, ◌≤◌, arith, refl, sym, ap, ap₂, ◌∙◌, ℤ, pos, neg_ℤ, ◌+ℤ◌, ◌-ℤ◌, ◌*ℤ◌, ◌<ℤ◌, ◌≤ℤ◌, ◌⊎◌, inl, inr, ⊎_elim}
+use Rattle.std.proofs.lemmas.Int.{ints}
+use Rattle.std.proofs.lemmas.Bool.{cases_eq}
+use Rattle.zr_base.proofs.Ring.{spread, neg-mul_left, mul-add_left, mul_assoc}
+use Rattle.zr_base.proofs.Divisors.{mul_positive}
+use Rattle.zr_base.specs.Sums.{sum_to}
+use Rattle.zr_base.proofs.Dense.{sum_to_same, sum_to-add, sum_to-mul}
+use Rattle.zr_simplex.specs.Programs.{Program, aim_at}
+use Rattle.zr_simplex.specs.BasicForms.{value_column, right_column, CombinesEquations, IsBasicForm, IsBasicSolution, IsBasicDirection}
+use Rattle.zr_simplex.specs.Dues.{AreSlacks, IsComplete}
+use Rattle.zr_simplex.proofs.Signs.{nonnegative_mul, nonnegative_factor, negative_factor}
+use Rattle.zr_simplex.proofs.Sums.{sum_to-append, sum_to-swap, sum_to-all_zero, sum_to-single, sum_to-double, sum_to-sub, sum_to-mul_right}
+
+-- a column is one of the first n of the basis, or none of them
+pub in_basis : (basis : ℕ → ℕ) (n j : ℕ) → ((k : ℕ) × (k < n) × (j ≡ basis k)) ⊎ ((k : ℕ) → k < n → j ≢ basis k)
+in_basis basis zero j = inr (λ k h. absurd (omega arith))
+in_basis basis (suc n) j = ⊎_elim (λ (f : (k : ℕ) × (k < n) × (j ≡ basis k)). inl (f.0, omega (arith, f.1), f.2)) (λ (out : (k : ℕ) → k < n → j ≢ basis k). ⊎_elim (λ (e : j ≡ basis n). inl (n, omega arith, e)) (λ (a : j ≢ basis n). inr (λ k h. ⊎_elim (λ (s : k ≡ n). rw s a) (λ (b : k ≢ n). out k (omega arith)) (cases_eq k n))) (cases_eq j (basis n))) (in_basis basis n j)
+
+sub_times : (s v a x : ℤ) → (s -ℤ v *ℤ a) *ℤ x ≡ s *ℤ x -ℤ v *ℤ (a *ℤ x)
+sub_times s v a x = simp spread (omega (arith, ints))
+
+-- a combination holds wherever the program's equations do
+module _ (p : Program) (e : ℕ → ℤ) (made : CombinesEquations p e) (x : ℕ → ℤ) (d : ℤ) (slacks : AreSlacks p x d) where
+  left : ℕ → ℤ
+  left r = sum_to p.columns (λ j. p.coef r j *ℤ x j)
+
+  one_column : (j : ℕ) → j < p.columns → e j *ℤ x j ≡ sum_to p.rows (λ r. e (p.columns + r) *ℤ (p.coef r j *ℤ x j)) -ℤ e (value_column p) *ℤ (p.aim j *ℤ x j)
+  one_column j h =
+      let a = sum_to-mul_right p.rows (λ r. e (p.columns + r) *ℤ p.coef r j) (x j) in
+      let b = sum_to_same p.rows (λ r. e (p.columns + r) *ℤ p.coef r j *ℤ x j) (λ r. e (p.columns + r) *ℤ (p.coef r j *ℤ x j)) (λ r k. simp spread refl) in
+      let c = ap (λ z. z *ℤ x j) (made.columns j h) in
+      let t = sub_times (sum_to p.rows (λ r. e (p.columns + r) *ℤ p.coef r j)) (e (value_column p)) (p.aim j) (x j) in
+      c ∙ t ∙ ap (λ z. z -ℤ e (value_column p) *ℤ (p.aim j *ℤ x j)) (sym a ∙ b)
+
+  structural : sum_to p.columns (λ j. e j *ℤ x j) ≡ sum_to p.rows (λ r. e (p.columns + r) *ℤ left r) -ℤ e (value_column p) *ℤ aim_at p x
+  unfolding left
+  structural =
+      let n = p.columns in
+      let v = e (value_column p) in
+      sum_to_same n (λ j. e j *ℤ x j) (λ j. sum_to p.rows (λ r. e (n + r) *ℤ (p.coef r j *ℤ x j)) -ℤ v *ℤ (p.aim j *ℤ x j)) one_column
+      ∙ sum_to-sub n (λ j. sum_to p.rows (λ r. e (n + r) *ℤ (p.coef r j *ℤ x j))) (λ j. v *ℤ (p.aim j *ℤ x j))
+      ∙ ap₂ ◌-ℤ◌ (sum_to-swap n p.rows (λ j r. e (n + r) *ℤ (p.coef r j *ℤ x j)) ∙ sum_to_same p.rows (λ r. sum_to n (λ j. e (n + r) *ℤ (p.coef r j *ℤ x j))) (λ r. e (n + r) *ℤ left r) (λ r h. sum_to-mul n (e (n + r)) (λ j. p.coef r j *ℤ x j))) (sum_to-mul n v (λ j. p.aim j *ℤ x j))
+
+  pub combination_holds : sum_to (p.columns + p.rows) (λ j. e j *ℤ x j) +ℤ e (value_column p) *ℤ aim_at p x ≡ e (right_column p) *ℤ d
+  unfolding left
+  combination_holds =
+      let n = p.columns in
+      let split = sum_to-append n p.rows (λ j. e j *ℤ x j) in
+      let both = sum_to-add p.rows (λ r. e (n + r) *ℤ left r) (λ r. e (n + r) *ℤ x (n + r)) in
+      let rows = sum_to_same p.rows (λ r. e (n + r) *ℤ left r +ℤ e (n + r) *ℤ x (n + r)) (λ r. e (n + r) *ℤ p.le r *ℤ d) (λ r h. sym (mul-add_left (e (n + r)) (left r) (x (n + r))) ∙ ap (λ z. e (n + r) *ℤ z) (slacks r h) ∙ sym (mul_assoc (e (n + r)) (p.le r) d)) in
+      let right = sum_to-mul_right p.rows (λ r. e (n + r) *ℤ p.le r) d in
+      let last = ap (λ z. z *ℤ d) made.right in
+      omega (arith, ints, split, both, rows, right, last, structural)
+
+-- the columns off the basis and those on it
+module _ (p : Program) (basis : ℕ → ℕ) (form : ℕ → ℕ → ℤ) (basic : IsBasicForm p basis form) where
+  wide_enough : (i : ℕ) → i < p.rows → basis i < p.columns + p.rows
+  wide_enough i h = basic.columns i h
+
+  module _ (complete : IsComplete p form) (x : ℕ → ℤ) (d : ℤ) (solution : IsBasicSolution p basis form x d) where
+    off_own : (i : ℕ) → i ≤ p.rows → (j : ℕ) → j < p.columns + p.rows → j ≢ basis i → form i j *ℤ x j ≡ pos 0
+    off_own i h j q apart = ⊎_elim (λ (f : (k : ℕ) × (k < p.rows) × (j ≡ basis k)). on f) (λ (out : (k : ℕ) → k < p.rows → j ≢ basis k). ap (λ z. form i j *ℤ z) (solution.off j q out) ∙ omega (arith, ints)) (in_basis basis p.rows j)
+      where
+        on : ((k : ℕ) × (k < p.rows) × (j ≡ basis k)) → form i j *ℤ x j ≡ pos 0
+        on f =
+            let z = basic.other i f.0 h (omega (arith, f.1)) (λ e. apart (f.2 ∙ ap basis (sym e))) in
+            ap (λ c. form i c *ℤ x j) f.2 ∙ ap (λ z. z *ℤ x j) z ∙ omega (arith, ints)
+
+    pub solution_slacks : AreSlacks p x d
+    solution_slacks =
+        complete x d (λ i h. sum_to-single (p.columns + p.rows) (basis i) (λ j. form i j *ℤ x j) (basic.columns i h) (off_own i (omega arith)) ∙ solution.on i h)
+
+    -- the value's equation gives the aim's value
+    pub solution_value : form p.rows (value_column p) *ℤ aim_at p x ≡ form p.rows (right_column p) *ℤ d
+    solution_value =
+        let all = combination_holds p (form p.rows) (basic.combination p.rows (omega arith)) x d solution_slacks in
+        let none = sum_to-all_zero (p.columns + p.rows) (λ j. form p.rows j *ℤ x j) (λ j h. off_own p.rows (omega arith) j h (λ e. let v = basic.value in omega (arith, v, e))) in
+        omega (arith, ints, all, none)
+
+    -- it isn't negative where no right side is
+    pub solution_nonnegative : (pos 0) <ℤ d → ((i : ℕ) → i < p.rows → (pos 0) ≤ℤ form i (right_column p)) → (j : ℕ) → j < p.columns + p.rows → (pos 0) ≤ℤ x j
+    solution_nonnegative positive rights j q = ⊎_elim (λ (f : (k : ℕ) × (k < p.rows) × (j ≡ basis k)). on f) (λ (out : (k : ℕ) → k < p.rows → j ≢ basis k). rw (solution.off j q out) (omega (arith, ints))) (in_basis basis p.rows j)
+      where
+        on : ((k : ℕ) × (k < p.rows) × (j ≡ basis k)) → (pos 0) ≤ℤ x j
+        on f = rw f.2 (nonnegative_factor (form f.0 (basis f.0)) (x (basis f.0)) (basic.own f.0 (omega (arith, f.1))) (rw (solution.on f.0 f.1) (nonnegative_mul (form f.0 (right_column p)) d (rights f.0 f.1) (omega (arith, ints, positive)))))
+
+  -- column col isn't in the basis, and x raises it
+  module _ (complete : IsComplete p form) (col : ℕ) (free : (k : ℕ) → k < p.rows → col ≢ basis k) (below : col < p.columns + p.rows) (x : ℕ → ℤ) (d : ℤ) (direction : IsBasicDirection p basis form col x d) where
+    off_both : (i : ℕ) → i ≤ p.rows → (j : ℕ) → j < p.columns + p.rows → j ≢ basis i → j ≢ col → form i j *ℤ x j ≡ pos 0
+    off_both i h j q apart other = ⊎_elim (λ (f : (k : ℕ) × (k < p.rows) × (j ≡ basis k)). on f) (λ (out : (k : ℕ) → k < p.rows → j ≢ basis k). ap (λ z. form i j *ℤ z) (direction.off j q other out) ∙ omega (arith, ints)) (in_basis basis p.rows j)
+      where
+        on : ((k : ℕ) × (k < p.rows) × (j ≡ basis k)) → form i j *ℤ x j ≡ pos 0
+        on f =
+            let z = basic.other i f.0 h (omega (arith, f.1)) (λ e. apart (f.2 ∙ ap basis (sym e))) in
+            ap (λ c. form i c *ℤ x j) f.2 ∙ ap (λ z. z *ℤ x j) z ∙ omega (arith, ints)
+
+    level : (a y b : ℤ) → a *ℤ y ≡ neg_ℤ b *ℤ d → a *ℤ y +ℤ b *ℤ d ≡ pos 0
+    level a y b e = let n = neg-mul_left b d in omega (arith, ints, e, n)
+
+    pub direction_slacks : AreSlacks p x (pos 0)
+    direction_slacks =
+        complete x (pos 0) (λ i h. sum_to-double (p.columns + p.rows) (basis i) col (λ j. form i j *ℤ x j) (basic.columns i h) below (λ e. free i h (sym e)) (off_both i (omega arith)) ∙ ap (λ z. form i (basis i) *ℤ x (basis i) +ℤ form i col *ℤ z) direction.raised ∙ level (form i (basis i)) (x (basis i)) (form i col) (direction.on i h) ∙ omega (arith, ints))
+
+    -- the aim falls along it where the value's equation is above zero at the column
+    pub direction_value : (pos 0) <ℤ d → (pos 0) <ℤ form p.rows col → aim_at p x <ℤ (pos 0)
+    direction_value positive above =
+        let all = combination_holds p (form p.rows) (basic.combination p.rows (omega arith)) x (pos 0) direction_slacks in
+        let one = sum_to-single (p.columns + p.rows) col (λ j. form p.rows j *ℤ x j) below (λ j h other. off_both p.rows (omega arith) j h (λ e. let v = basic.value in omega (arith, v, e)) other) in
+        let up = mul_positive (form p.rows col) d above positive in
+        let at = ap (λ z. form p.rows col *ℤ z) direction.raised in
+        let own : (pos 0) <ℤ form p.rows (value_column p) = rw (← basic.value) (basic.own p.rows (omega arith)) in
+        negative_factor (form p.rows (value_column p)) (aim_at p x) own (omega (arith, ints, all, one, up, at))
+
+    -- it isn't negative where no equation of a row is above zero at the column
+    pub direction_nonnegative : (pos 0) <ℤ d → ((i : ℕ) → i < p.rows → form i col ≤ℤ (pos 0)) → (j : ℕ) → j < p.columns + p.rows → (pos 0) ≤ℤ x j
+    direction_nonnegative positive under j q = ⊎_elim (λ (f : (k : ℕ) × (k < p.rows) × (j ≡ basis k)). on f) (λ (out : (k : ℕ) → k < p.rows → j ≢ basis k). ⊎_elim (λ (e : j ≡ col). rw (e, direction.raised) (omega (arith, ints, positive))) (λ (other : j ≢ col). rw (direction.off j q other out) (omega (arith, ints))) (cases_eq j col)) (in_basis basis p.rows j)
+      where
+        on : ((k : ℕ) × (k < p.rows) × (j ≡ basis k)) → (pos 0) ≤ℤ x j
+        on f = rw f.2 (nonnegative_factor (form f.0 (basis f.0)) (x (basis f.0)) (basic.own f.0 (omega (arith, f.1))) (rw (direction.on f.0 f.1) (nonnegative_mul (neg_ℤ (form f.0 col)) d (let u = under f.0 f.1 in omega (arith, ints, u)) (omega (arith, ints, positive)))))
+
+  -- a column where the value's equation isn't zero is off the basis
+  pub free_if : (col : ℕ) → form p.rows col ≢ pos 0 → (k : ℕ) → k < p.rows → col ≢ basis k
+  free_if col apart k h e = apart (ap (form p.rows) e ∙ basic.other p.rows k (omega arith) (omega arith) (λ s. let q : k < p.rows = h in omega (arith, s, q)))

@@ -1,0 +1,23 @@
+mod Bits
+mod Divide
+mod Crossed
+mod Subtract
+mod Clear
+mod Grids
+mod Turn
+mod Views
+mod Sums
+mod Signs
+mod Forms
+mod Pivots
+mod Begin
+mod Lcm
+mod Multiples
+mod Lists
+mod Places
+mod Kept
+mod Low
+mod Conclude
+mod Turned
+mod Leaving
+pub mod Quotients

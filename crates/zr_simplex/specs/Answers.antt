@@ -1,0 +1,95 @@
+-- The three answers of a linear program by substitution, and that they come from a basic form.
+use Rattle.std.specs.Prelude.{◌≡◌, ◌≢◌, ℕ, ◌<◌, ◌+◌, ℤ, pos, negsuc, neg_ℤ, ◌+ℤ◌, ◌*ℤ◌, ◌<ℤ◌, ◌≤ℤ◌, Bool, true, false, cond, List, length}
+use Rattle.std.specs.List.{All}
+use Rattle.zr_base.specs.Terms.{Terms, coef_at}
+use Rattle.zr_base.specs.Points.{PointOf, num_of}
+use Rattle.zr_lin.specs.DenseRows.{DenseRow, AreMultipliers, combination}
+use Rattle.zr_lin.specs.Ineqs.{IneqHolds, Solves, row_at}
+use Rattle.zr_simplex.specs.declared.program.Lp.{Lp}
+use Rattle.zr_simplex.specs.declared.program.LpAnswer.{LpAnswer}
+use Rattle.zr_simplex.specs.declared.program.LpAnswer.TheVariants.{Best, Empty, Unbounded}
+use Rattle.zr_simplex.specs.Programs.{Program, program_of, lp_rows, numbers, aim_at}
+use Rattle.zr_simplex.specs.BasicForms.{value_column, IsBasicSolution, IsBasicDirection}
+
+-- the sum of the rows, each times its multiplier
+abbrev pub weighed : Lp → Terms → DenseRow
+weighed lp mult = combination (row_at (lp_rows lp)) mult
+
+-- the point has a value of at least 0 for each column, and meets the rows
+pub record IsFeasible (lp : Lp) (point : PointOf) : Type 0 where
+  pub len : length point.num ≡ lp.columns
+  pub nonnegative : (j : ℕ) → j < lp.columns → (pos 0) ≤ℤ num_of point j
+  pub rows : Solves (lp_rows lp) (num_of point) point.den
+
+-- the row is `-x v <= le`
+abbrev pub IsLow : DenseRow → ℕ → Type 0
+IsLow row v = (row.coef v ≡ negsuc 0) × ((j : ℕ) → j ≢ v → row.coef j ≡ pos 0)
+
+-- multipliers of at least 1 by row, and extras of at least 1 by column; a row `-x v <= le` and the extra of v aren't both listed
+pub record AreListed (lp : Lp) (mult extra : Terms) : Type 0 where
+  pub multipliers : AreMultipliers (length lp.rows.items) mult
+  pub extras : AreMultipliers lp.columns extra
+  pub apart : (r v : ℕ) → r < length lp.rows.items → v < lp.columns → IsLow (row_at (lp_rows lp) r) v → coef_at mult r ≢ pos 0 → coef_at extra v ≡ pos 0
+
+-- the point is feasible, and by the multipliers no feasible point has a lower value
+pub record IsBest (lp : Lp) (point : PointOf) (scale : ℤ) (mult extra : Terms) : Type 0 where
+  pub feasible : IsFeasible lp point
+  pub listed : AreListed lp mult extra
+  pub scale_above : (pos 1) ≤ℤ scale
+  pub columns : (j : ℕ) → j < lp.columns → scale *ℤ numbers lp.aim.items j +ℤ (weighed lp mult).coef j ≡ coef_at extra j
+  pub value : neg_ℤ (weighed lp mult).le *ℤ point.den ≡ scale *ℤ aim_at (program_of lp) (num_of point)
+
+-- by the multipliers no point is feasible
+pub record IsEmpty (lp : Lp) (mult extra : Terms) : Type 0 where
+  pub listed : AreListed lp mult extra
+  pub columns : (j : ℕ) → j < lp.columns → (weighed lp mult).coef j ≡ coef_at extra j
+  pub right : (weighed lp mult).le <ℤ (pos 0)
+
+-- the point is feasible, and from there the value falls without end along the ray
+pub record IsUnbounded (lp : Lp) (point : PointOf) (ray : List ℤ) : Type 0 where
+  pub feasible : IsFeasible lp point
+  pub len : length ray ≡ lp.columns
+  pub nonnegative : (j : ℕ) → j < lp.columns → (pos 0) ≤ℤ numbers ray j
+  pub rows : All (IneqHolds (numbers ray) (pos 0)) (lp_rows lp)
+  pub falls : aim_at (program_of lp) (numbers ray) <ℤ (pos 0)
+
+-- one of the three answers
+abbrev pub IsAnswer : Lp → LpAnswer → Type 0
+IsAnswer lp (Best point scale mult extra) = IsBest lp point scale mult.items extra.items
+IsAnswer lp (Empty mult extra) = IsEmpty lp mult.items extra.items
+IsAnswer lp (Unbounded point ray) = IsUnbounded lp point ray.items
+
+-- the point is the basic solution
+pub record IsBasicPoint (p : Program) (basis : ℕ → ℕ) (form : ℕ → ℕ → ℤ) (point : PointOf) : Type 0 where
+  pub all : ℕ → ℤ
+  pub solution : IsBasicSolution p basis form all point.den
+  pub den : (pos 0) <ℤ point.den
+  pub len : length point.num ≡ p.columns
+  pub same : (j : ℕ) → j < p.columns → num_of point j ≡ all j
+
+-- the ray is the basic direction that raises column col
+pub record IsBasicRay (p : Program) (basis : ℕ → ℕ) (form : ℕ → ℕ → ℤ) (col : ℕ) (ray : List ℤ) : Type 0 where
+  pub all : ℕ → ℤ
+  pub raise : ℤ
+  pub direction : IsBasicDirection p basis form col all raise
+  pub positive : (pos 0) <ℤ raise
+  pub len : length ray ≡ p.columns
+  pub same : (j : ℕ) → j < p.columns → numbers ray j ≡ all j
+
+-- the number, or its negation
+abbrev pub signed : Bool → ℤ → ℤ
+signed negated z = cond negated (neg_ℤ z) z
+
+-- the multipliers are the numbers of the equation e at the slacks, and the extras those at the columns, or all are their negations
+pub record AreOf (p : Program) (e : ℕ → ℤ) (negated : Bool) (mult extra : Terms) : Type 0 where
+  pub multipliers : (r : ℕ) → r < p.rows → coef_at mult r ≡ signed negated (e (p.columns + r))
+  pub extras : (j : ℕ) → j < p.columns → coef_at extra j ≡ signed negated (e j)
+
+-- the answer is read off the basic form: a point is the basic solution, a ray a basic direction, and multipliers, extras and scale are the numbers of one equation
+abbrev pub IsBasicAnswer : Program → (ℕ → ℕ) → (ℕ → ℕ → ℤ) → LpAnswer → Type 0
+IsBasicAnswer p basis form (Best point scale mult extra) =
+    IsBasicPoint p basis form point × (scale ≡ form p.rows (value_column p)) × AreOf p (form p.rows) true mult.items extra.items
+IsBasicAnswer p basis form (Empty mult extra) =
+    (row : ℕ) × (row < p.rows) × AreOf p (form row) false mult.items extra.items
+IsBasicAnswer p basis form (Unbounded point ray) =
+    (col : ℕ) × (col < value_column p) × IsBasicPoint p basis form point × IsBasicRay p basis form col ray.items

@@ -1,0 +1,10 @@
+pub mod Programs
+pub mod BasicForms
+pub mod Pivots
+pub mod StuckSteps
+pub mod Answers
+pub mod Causes
+pub mod RowSteps
+pub mod Tableaus
+pub mod Dues
+pub mod Halts

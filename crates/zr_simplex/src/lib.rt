@@ -1,0 +1,19 @@
+//! Linear programs by the exact simplex method.
+#![tactic(auto)]
+
+mod basic;
+mod choose;
+mod listed;
+mod pivot;
+mod program;
+mod row;
+mod solution;
+mod solve;
+mod start;
+mod tableau;
+#[cfg(test)]
+mod tests;
+
+pub use program::{Lp, LpAnswer, Stop};
+pub use solve::solve_lp;
+pub use zr_lin::{Step, Stuck};
