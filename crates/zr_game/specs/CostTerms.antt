@@ -1,0 +1,18 @@
+-- A cross term of player i at one point per player.
+use Rattle.std.specs.Prelude.{ℕ, ◌<◌, length, List}
+use Rattle.zr_base.specs.Fractions.{Fraction, whole, times}
+use Rattle.zr_base.specs.Points.{PointOf, value_of}
+use Rattle.zr_game.specs.declared.player.CrossTerm.{CrossTerm}
+use Rattle.zr_game.specs.Costs.{point_of}
+
+-- the points of player i and of the term's player have the term's variables
+pub record IsTermAt (i : ℕ) (points : List PointOf) (t : CrossTerm) : Type 0 where
+  pub here : i < length points
+  pub there : t.player < length points
+  pub own : t.own < length (point_of points i).num
+  pub var : t.var < length (point_of points t.player).num
+
+-- its number times the own value times the other player's value
+abbrev pub cross_value : ℕ → List PointOf → CrossTerm → Fraction
+cross_value i points t =
+    times (whole t.coef) (times (value_of (point_of points i) t.own) (value_of (point_of points t.player) t.var))

@@ -1,0 +1,16 @@
+pub mod Players
+pub mod Forms
+pub mod FormLaws
+pub mod Games
+pub mod Feasible
+pub mod FeasibleSteps
+pub mod Costs
+pub mod CostSteps
+pub mod Profiles
+pub mod Equilibria
+pub mod Leaves
+pub mod Pennies
+pub mod Means
+pub mod PureProfiles
+pub mod CostTerms
+pub mod Counts

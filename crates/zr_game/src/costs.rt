@@ -1,0 +1,118 @@
+ghost use Rattle.std.specs.Prelude.{◌≡◌, ◌<◌, pos, length, IfOk};
+ghost use Rattle.std.specs.List.{All};
+ghost use Rattle.zr_base.specs.Fractions.{IsSame, plus, sum_over, times, whole};
+ghost use Rattle.zr_base.specs.Lowest.{IsLowest, reduce};
+ghost use Rattle.zr_base.specs.Points.{num_of, value_of};
+ghost use Rattle.zr_game.specs.Players.{PlayerOf, player_of};
+ghost use Rattle.zr_game.specs.Games.{game_of};
+ghost use Rattle.zr_game.specs.Forms.{IsPlayer};
+ghost use Rattle.zr_game.specs.Costs.{cost_of, point_of};
+ghost use Rattle.zr_game.specs.CostSteps.{ArePoints, cost_steps, cross_term, own_term, sum_made, times_value};
+ghost use Rattle.zr_game.specs.CostTerms.{IsTermAt, cross_value};
+
+use crate::game::Game;
+use crate::player::{CrossTerm, Player};
+use zr_base::{Frac, Point, Wide};
+
+/// The cost of player `i`, which is below the number of players, at one point of the right length
+/// per player.
+///
+/// The own terms are added in their order, and then the cross terms in theirs, each of which is
+/// its number times the own value, and then times the other player's value. The answer is the
+/// first step of these that is too wide, where there is one.
+pub fn cost(game: &Game, i: u32, points: &[Point]) -> Result<Frac, Wide>
+    requires number { i < length (game_of game.now) }
+    requires points { ArePoints (game_of game.now) points.now }
+    ensures steps { (player : PlayerOf) → IsPlayer (game_of game.now) i player → result ≡ cost_steps player i points.now }
+    ensures exact { (player : PlayerOf) → IsPlayer (game_of game.now) i player → IfOk result (λ f. IsSame f (cost_of player i points.now)) }
+    ensures lowest { IfOk result IsLowest }
+{
+    let player = &game.players[i as usize];
+    player_cost(player, i as usize, points)
+}
+
+fn player_cost(player: &Player, i: usize, points: &[Point]) -> Result<Frac, Wide>
+    requires here { i < length points.now }
+    requires own { All (λ t. t.0 < length (point_of points.now i).num) player.now.cost.items }
+    requires cross { All (IsTermAt i points.now) player.now.cross.items }
+    ensures steps { result ≡ cost_steps (player_of player.now) i points.now }
+    ensures exact { IfOk result (λ f. IsSame f (cost_of (player_of player.now) i points.now)) }
+    ensures lowest { IfOk result IsLowest }
+{
+    let own = own_sum(player.cost.as_slice(), &points[i])?;
+    cross_sum(own, &player.cross, i, points)
+}
+
+fn own_sum(cost: &[(u32, i64)], point: &Point) -> Result<Frac, Wide>
+    requires { All (λ t. t.0 < length point.now.num) cost.now }
+    ensures steps { result ≡ sum_made (own_term point.now) (whole (pos 0)) cost.now }
+    ensures exact { IfOk result (λ f. IsSame f (sum_over cost.now (λ t. times (whole t.1) (value_of point.now t.0)))) }
+    ensures lowest { IfOk result IsLowest }
+{
+    let mut sum = number(0);
+    for (v, c) in cost {
+        let term = own_product(*c, point, *v as usize)?;
+        sum = sum.add(term)?;
+    }
+    Ok(sum)
+}
+
+/// `start` and then the cross terms.
+fn cross_sum(start: Frac, cross: &[CrossTerm], i: usize, points: &[Point]) -> Result<Frac, Wide>
+    requires terms { All (IsTermAt i points.now) cross.now }
+    requires lowest { IsLowest start }
+    ensures steps { result ≡ sum_made (cross_term i points.now) start cross.now }
+    ensures exact { IfOk result (λ f. IsSame f (plus start (sum_over cross.now (cross_value i points.now)))) }
+    ensures lowest { IfOk result IsLowest }
+{
+    let mut sum = start;
+    for t in cross {
+        let term = cross_product(t, i, points)?;
+        sum = sum.add(term)?;
+    }
+    Ok(sum)
+}
+
+/// A number times an own value, and that times another player's value.
+fn cross_product(t: &CrossTerm, i: usize, points: &[Point]) -> Result<Frac, Wide>
+    requires { IsTermAt i points.now t.now }
+    ensures steps { result ≡ cross_term i points.now t.now }
+    ensures exact { IfOk result (λ f. IsSame f (cross_value i points.now t.now)) }
+    ensures lowest { IfOk result IsLowest }
+{
+    let first = own_product(t.coef, &points[i], t.own as usize)?;
+    times_value_at(first, &points[t.player as usize], t.var as usize)
+}
+
+fn own_product(c: i64, point: &Point, v: usize) -> Result<Frac, Wide>
+    requires { v < length point.now.num }
+    ensures steps { result ≡ own_term point.now (v, c) }
+    ensures exact { IfOk result (λ f. IsSame f (times (whole c) (value_of point.now v))) }
+    ensures lowest { IfOk result IsLowest }
+{
+    times_value_at(number(c), point, v)
+}
+
+fn times_value_at(a: Frac, point: &Point, v: usize) -> Result<Frac, Wide>
+    requires { v < length point.now.num }
+    ensures steps { result ≡ times_value a point.now v }
+    ensures exact { IfOk result (λ f. IsSame f (times a (value_of point.now v))) }
+    ensures lowest { IfOk result IsLowest }
+{
+    a.mul(value_at(point, v))
+}
+
+fn value_at(point: &Point, v: usize) -> Frac
+    requires { v < length point.now.num }
+    ensures value { result ≡ reduce (num_of point.now v) point.now.den }
+    ensures same { IsSame result (value_of point.now v) }
+    ensures lowest { IsLowest result }
+{
+    Frac::new(point.num(v), point.den()).unwrap()
+}
+
+fn number(c: i64) -> Frac
+    ensures { result ≡ whole c }
+{
+    Frac::new(i128::from(c), 1).unwrap()
+}

@@ -1,0 +1,184 @@
+ghost use Rattle.std.specs.Prelude.{◌≡◌, ◌≢◌, ◌↔◌, ◌<◌, ◌≤◌, ℕ, IsTrue, length, map};
+ghost use Rattle.std.specs.List.{All, AllPairs};
+ghost use Rattle.std.specs.declared.cmp.Ordering.TheVariants.{Less};
+ghost use Rattle.zr_base.specs.Rows.{row_of};
+ghost use Rattle.zr_game.specs.Players.{PlayerOf, pair_of, player_of, players_of, var_of};
+ghost use Rattle.zr_game.specs.Counts.{AreCounts};
+ghost use Rattle.zr_game.specs.Forms.{AreTerms, HasVar, IsCoefficient, IsCrossForm, IsGame, IsNumber, IsPairForm, IsPlayer, IsPlayerForm, IsRowForm, IsVarForm, cross_order};
+
+use crate::player::{CrossTerm, Pair, Player, Var};
+use zr_base::Row;
+
+/// The greatest size of a number in a game.
+const NUMBER_LIMIT: i64 = 1_000_000_000;
+
+/// Whether the players are a game.
+pub(crate) fn is_game(players: &[Player]) -> bool
+    ensures { IsTrue result ↔ IsGame (players_of players.now) }
+{
+    if players.is_empty() || players.len() > 16 {
+        return false;
+    }
+    are_players(players)
+}
+
+fn are_players(players: &[Player]) -> bool
+    ensures { IsTrue result ↔ ((i : ℕ) (player : PlayerOf) → IsPlayer (players_of players.now) i player → IsPlayerForm (players_of players.now) i player) }
+{
+    let mut all = true;
+    for (i, player) in players.iter().enumerate() {
+        all &= is_player(player, i, players);
+    }
+    all
+}
+
+/// Whether player `i` of the players keeps the rules.
+fn is_player(player: &Player, i: usize, players: &[Player]) -> bool
+    ensures { IsTrue result ↔ IsPlayerForm (players_of players.now) i (player_of player.now) }
+{
+    let columns = player.vars.len();
+    are_counts(player)
+        & are_vars(&player.vars)
+        & are_rows(&player.rows, columns)
+        & are_pairs(&player.pairs, columns)
+        & are_terms(player.cost.as_slice(), columns)
+        & are_cross_terms(&player.cross, i, columns, players)
+        & ascend(&player.cross)
+}
+
+fn are_counts(player: &Player) -> bool
+    ensures { IsTrue result ↔ AreCounts (player_of player.now) }
+{
+    !player.vars.is_empty()
+        && player.vars.len() <= 64
+        && player.rows.len() <= 256
+        && player.pairs.len() <= 32
+        && player.cross.len() <= 65536
+}
+
+fn are_vars(vars: &[Var]) -> bool
+    ensures { IsTrue result ↔ All IsVarForm (map var_of vars.now) }
+{
+    let mut all = true;
+    for var in vars {
+        all &= is_var(var);
+    }
+    all
+}
+
+fn is_var(var: &Var) -> bool
+    ensures { IsTrue result ↔ IsVarForm (var_of var.now) }
+{
+    match var.up {
+        None => true,
+        Some(up) => 0 <= up && up <= NUMBER_LIMIT,
+    }
+}
+
+fn are_rows(rows: &[Row], columns: usize) -> bool
+    ensures { IsTrue result ↔ All (IsRowForm columns) (map row_of rows.now) }
+{
+    let mut all = true;
+    for row in rows {
+        all &= is_row(row, columns);
+    }
+    all
+}
+
+fn is_row(row: &Row, columns: usize) -> bool
+    ensures { IsTrue result ↔ IsRowForm columns (row_of row.now) }
+{
+    are_terms(row.coef.as_slice(), columns) && is_number(row.le)
+}
+
+fn are_pairs(pairs: &[Pair], columns: usize) -> bool
+    ensures { IsTrue result ↔ All (IsPairForm columns) (map pair_of pairs.now) }
+{
+    let mut all = true;
+    for pair in pairs {
+        all &= is_pair(pair, columns);
+    }
+    all
+}
+
+fn is_pair(pair: &Pair, columns: usize) -> bool
+    ensures { IsTrue result ↔ IsPairForm columns (pair_of pair.now) }
+{
+    (pair.var as usize) < columns && are_terms(pair.coef.as_slice(), columns) && is_number(pair.add)
+}
+
+/// Whether terms stand in the order of their columns, each below `columns`.
+fn are_terms(coef: &[(u32, i64)], columns: usize) -> bool
+    ensures { IsTrue result ↔ AreTerms columns coef.now }
+{
+    let mut low = 0;
+    let mut all = true;
+    for (column, number) in coef {
+        let column = *column as usize;
+        all &= is_next_term(low, columns, column, *number);
+        low = column + 1;
+    }
+    all
+}
+
+fn is_next_term(low: usize, columns: usize, column: usize, number: i64) -> bool
+    ensures { IsTrue result ↔ ((low ≤ column) × (column < columns) × IsCoefficient number) }
+{
+    low <= column && column < columns && is_coefficient(number)
+}
+
+fn is_coefficient(z: i64) -> bool
+    ensures { IsTrue result ↔ IsCoefficient z }
+{
+    is_number(z) && z != 0
+}
+
+fn is_number(z: i64) -> bool
+    ensures { IsTrue result ↔ IsNumber z }
+{
+    -NUMBER_LIMIT <= z && z <= NUMBER_LIMIT
+}
+
+fn are_cross_terms(cross: &[CrossTerm], i: usize, columns: usize, players: &[Player]) -> bool
+    ensures { IsTrue result ↔ All (IsCrossForm (players_of players.now) i columns) cross.now }
+{
+    let mut all = true;
+    for t in cross {
+        all &= is_cross_term(t, i, columns, players);
+    }
+    all
+}
+
+fn is_cross_term(t: &CrossTerm, i: usize, columns: usize, players: &[Player]) -> bool
+    ensures { IsTrue result ↔ IsCrossForm (players_of players.now) i columns t.now }
+{
+    (t.own as usize) < columns
+        && t.player as usize != i
+        && has_var(players, t.player as usize, t.var as usize)
+        && is_coefficient(t.coef)
+}
+
+/// Whether there is a player `k` with a variable `v`.
+fn has_var(players: &[Player], k: usize, v: usize) -> bool
+    ensures { IsTrue result ↔ ((k < length (players_of players.now)) × HasVar (players_of players.now) k v) }
+{
+    k < players.len() && v < players[k].vars.len()
+}
+
+/// Whether cross terms stand in their order.
+fn ascend(cross: &[CrossTerm]) -> bool
+    ensures { IsTrue result ↔ AllPairs (λ s t. cross_order s t ≡ Less) cross.now }
+{
+    let mut all = true;
+    for k in 1..cross.len() {
+        all &= is_before(&cross[k - 1], &cross[k]);
+    }
+    all
+}
+
+fn is_before(s: &CrossTerm, t: &CrossTerm) -> bool
+    ensures { IsTrue result ↔ (cross_order s.now t.now ≡ Less) }
+{
+    let order = s.own.cmp(&t.own).then(s.player.cmp(&t.player));
+    order.then(s.var.cmp(&t.var)).is_lt()
+}

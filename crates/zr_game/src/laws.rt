@@ -1,0 +1,65 @@
+ghost use Rattle.std.specs.Prelude.{◌≡◌, ◌↔◌, ℕ, List, [], ◌∷◌, pos, ◌<ℤ◌, slice_set};
+ghost use Rattle.zr_base.specs.Fractions.{IsSame};
+ghost use Rattle.zr_base.specs.Points.{IsSamePoint, PointOf, value_of};
+ghost use Rattle.zr_game.specs.Players.{GameOf, PlayerOf};
+ghost use Rattle.zr_game.specs.Forms.{IsGame, IsPlayer};
+ghost use Rattle.zr_game.specs.Feasible.{IsFeasible};
+ghost use Rattle.zr_game.specs.Costs.{cost_of, point_of};
+ghost use Rattle.zr_game.specs.Profiles.{IsOfKind, IsProfile, Profile, deviation, expected_cost, strategy_of};
+ghost use Rattle.zr_game.specs.PureProfiles.{IsStableAt, points_of};
+ghost use Rattle.zr_game.specs.Equilibria.{HasNone, IsEquilibrium};
+ghost use Rattle.zr_game.specs.Means.{IsBestAlongSlope, along_slope, mean};
+ghost use Rattle.zr_game.specs.Pennies.{half_half, pennies};
+ghost use Rattle.zr_game.specs.declared.kind.Kind.TheVariants.{Pure};
+
+/// Points of the same values are feasible alike.
+pub fn law_of_same_points()
+    ensures { (player : PlayerOf) (x y : PointOf) → IsFeasible player x → pos 0 <ℤ y.den → IsSamePoint x y → IsFeasible player y }
+{}
+
+/// Points of the same values cost the same.
+pub fn law_of_same_costs()
+    ensures { (player : PlayerOf) (i : ℕ) (points others : List PointOf) → ((k v : ℕ) → IsSame (value_of (point_of points k) v) (value_of (point_of others k) v))
+        → IsSame (cost_of player i points) (cost_of player i others) }
+{}
+
+/// The expected cost of a pure profile is the cost at its points, and so it is where one player
+/// plays another point.
+pub fn law_of_pure_costs()
+    ensures played { (player : PlayerOf) (i : ℕ) (profile : Profile) → IsOfKind Pure profile
+        → IsSame (expected_cost player i profile) (cost_of player i (points_of profile)) }
+    ensures deviated { (player : PlayerOf) (i : ℕ) (profile : Profile) → IsOfKind Pure profile → (x : PointOf)
+        → IsSame (expected_cost player i (deviation profile i x)) (cost_of player i (slice_set (points_of profile) i x)) }
+{}
+
+/// A pure profile is an equilibrium exactly where no player has a feasible point at which its cost
+/// is smaller.
+pub fn law_of_pure_equilibria()
+    ensures { (game : GameOf) (profile : Profile) → IsProfile game profile → IsOfKind Pure profile
+        → (IsEquilibrium game profile ↔ IsStableAt game (points_of profile)) }
+{}
+
+/// An expected cost is the sum of slope times mean.
+pub fn law_of_means()
+    ensures { (game : GameOf) → IsGame game → (profile : Profile) → IsProfile game profile → (i : ℕ) (player : PlayerOf) → IsPlayer game i player
+        → IsSame (expected_cost player i profile) (along_slope player profile (mean (strategy_of profile i))) }
+{}
+
+/// A deviation costs the sum of slope times value.
+pub fn law_of_deviations()
+    ensures { (game : GameOf) → IsGame game → (profile : Profile) → IsProfile game profile → (i : ℕ) (player : PlayerOf) → IsPlayer game i player → (x : PointOf) → IsFeasible player x
+        → IsSame (expected_cost player i (deviation profile i x)) (along_slope player profile (value_of x)) }
+{}
+
+/// A profile is an equilibrium exactly where no feasible point is below a player's mean along its
+/// slope.
+pub fn law_of_equilibria()
+    ensures { (game : GameOf) → IsGame game → (profile : Profile) → IsProfile game profile
+        → (IsEquilibrium game profile ↔ IsBestAlongSlope game profile) }
+{}
+
+/// Matching pennies: playing 0 and 1 alike is an equilibrium, and no pure profile is one.
+pub fn law_of_pennies()
+    ensures halves { IsEquilibrium pennies (half_half ∷ half_half ∷ []) }
+    ensures pure { HasNone pennies Pure }
+{}
