@@ -1,0 +1,17 @@
+pub mod Lookups
+pub mod SlotPlaces
+pub mod PathLaws
+pub mod Forests
+pub mod Walking
+pub mod PassLaws
+pub mod Holding
+pub mod Combinations
+pub mod Descent
+pub mod Moves
+pub mod SlotReads
+pub mod Presence
+pub mod Additions
+pub mod Combined
+pub mod ProofLaws
+pub mod Greatest
+pub mod TreeForms

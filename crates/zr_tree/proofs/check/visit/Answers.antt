@@ -1,0 +1,16 @@
+use Rattle.std.proofs.Common.{rules, FitsSigned}
+use Rattle.std.specs.Int.{w128}
+use Rattle.std.proofs.lemmas.Int.{to_z-of_z}
+use Rattle.zr_tree.proofs.check.visit.Goals as goal
+
+pub returns-in-Leaf-clause-ok : goal.returns-in-Leaf-clause-ok
+returns-in-Leaf-clause-ok c =
+    let f : FitsSigned w128 c.args.le = search rules in
+    let g : FitsSigned w128 c.in-Leaf.scale = search rules in
+    rw c.in-Leaf.is (rw c.deref.ensures.value at (simp to_z-of_z at c.visit_proof.ensures.ok))
+
+pub returns-in-Leaf-clause-err : goal.returns-in-Leaf-clause-err
+returns-in-Leaf-clause-err c =
+    let f : FitsSigned w128 c.args.le = search rules in
+    let g : FitsSigned w128 c.in-Leaf.scale = search rules in
+    rw c.in-Leaf.is (rw c.deref.ensures.value at (simp to_z-of_z at c.visit_proof.ensures.err))

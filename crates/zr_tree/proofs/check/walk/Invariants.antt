@@ -1,0 +1,7 @@
+use Rattle.zr_game.specs.Players.{player_of}
+use Rattle.zr_tree.specs.Listed.{bound_of}
+use Rattle.zr_tree.proofs.Moves.{WalkedTo}
+use Rattle.zr_tree.proofs.check.walk.Given as goal
+
+abbrev pub invariant-loop-k : goal.invariant-loop-k
+invariant-loop-k l = WalkedTo (player_of l.player) (bound_of l.coef l.le) l.nodes l.k l.fn.room l.room

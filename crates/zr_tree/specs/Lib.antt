@@ -1,0 +1,13 @@
+pub mod Nodes
+pub mod Trees
+pub mod Form
+pub mod FormLaws
+pub mod Right
+pub mod Steps
+pub mod Listed
+pub mod Scratches
+pub mod Paths
+pub mod Rooms
+pub mod SlotRows
+pub mod Combining
+pub mod Visits

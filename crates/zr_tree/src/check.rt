@@ -1,0 +1,204 @@
+ghost use Rattle.std.specs.Prelude.{◌≡◌, ◌<◌, ◌≤◌, ◌↔◌, ◌^◌, pos, ◌≤ℤ◌, [], ◌∷◌, IsTrue, IfErr, OnOk, length, map};
+ghost use Rattle.std.specs.List.{All};
+ghost use Rattle.zr_base.specs.Points.{PointOf};
+ghost use Rattle.zr_game.specs.Players.{PlayerOf, player_of};
+ghost use Rattle.zr_game.specs.Games.{game_of};
+ghost use Rattle.zr_game.specs.Forms.{IsPlayer};
+ghost use Rattle.zr_game.specs.Feasible.{IsFeasible};
+ghost use Rattle.zr_game.specs.Leaves.{BoundHolds, above, below, decided, leaf_of, root_leaf};
+ghost use Rattle.zr_tree.specs.Nodes.{node_of};
+ghost use Rattle.zr_tree.specs.Form.{IsNodeForm};
+ghost use Rattle.zr_tree.specs.Trees.{TreeOf, preorder};
+ghost use Rattle.zr_tree.specs.Listed.{IsTreeOf, bound_of};
+ghost use Rattle.zr_tree.specs.Right.{IsOpenPair, IsWholeVar};
+ghost use Rattle.zr_tree.specs.Steps.{IsRefusedAt, Passes};
+ghost use Rattle.zr_tree.specs.Scratches.{most_pairs, most_vars};
+ghost use Rattle.zr_tree.specs.Paths.{Entered, HasPlaces, IsPathOf, IsSameSize};
+ghost use Rattle.zr_tree.specs.Visits.{HasForms, NodePasses, NodeRefused, ProofPasses, ProofRefused, children};
+
+use crate::fault::Fault;
+use crate::node::Node;
+use crate::path::{Path, enter_choice, enter_split, go_on, start};
+use crate::proof::proves;
+use crate::scratch::{Room, Scratch};
+use crate::tree::Tree;
+use zr_game::{Game, Leaf, Player, Side};
+
+/// Whether the tree proves the row `coef * x <= le` on the points of player `i`, which is below
+/// the number of players. `coef` has a number for each of the player's variables.
+///
+/// The tree is walked from its root leaf, each node before its children (A. H. Land and A. G. Doig,
+/// 1960; as a proof that is checked by itself: K. K. H. Cheung, A. Gleixner and D. E. Steffy, 2017).
+/// The first node that is refused is the answer: a split of a variable that isn't whole or doesn't
+/// exist, a choice of a pair that is decided or doesn't exist, a leaf whose slots, multiplied, don't
+/// prove the row and don't refute the leaf, and a node that says nothing of the row. At a leaf where
+/// all slots are present, a sum that is too wide comes before that.
+///
+/// `scratch` has places for the tree's nodes, the player's columns, and the greatest numbers of
+/// variables and pairs of the game; it keeps them.
+pub fn bounds(
+    game: &Game,
+    i: u32,
+    tree: &Tree,
+    coef: &[i128],
+    le: i128,
+    scratch: &mut Scratch,
+) -> Result<(), Fault>
+    requires number { i < length (game_of game.now) }
+    requires coef { (player : PlayerOf) → IsPlayer (game_of game.now) i player → length coef.now ≡ length player.vars }
+    requires nodes { length tree.now.nodes.items ≤ scratch.old.nodes }
+    requires columns { (player : PlayerOf) → IsPlayer (game_of game.now) i player → length player.vars ≤ scratch.old.columns }
+    requires vars { most_vars (game_of game.now) ≤ scratch.old.vars }
+    requires pairs { most_pairs (game_of game.now) ≤ scratch.old.pairs }
+    ensures ok { OnOk result ((player : PlayerOf) → IsPlayer (game_of game.now) i player → (t : TreeOf) → IsTreeOf tree.now t → Passes player (bound_of coef.now le) (root_leaf player) t) }
+    ensures err { IfErr result (λ fault. (player : PlayerOf) → IsPlayer (game_of game.now) i player → (t : TreeOf) → IsTreeOf tree.now t → IsRefusedAt player (bound_of coef.now le) 0 (root_leaf player) t fault) }
+    ensures sound { OnOk result ((player : PlayerOf) → IsPlayer (game_of game.now) i player → (x : PointOf) → IsFeasible player x → BoundHolds player x (bound_of coef.now le)) }
+    ensures places { scratch.new ≡ scratch.old }
+{
+    let player = &game.players[i as usize];
+    walk(player, &tree.nodes, coef, le, &mut scratch.room)
+}
+
+/// Walks the tree from its root.
+fn walk(
+    player: &Player,
+    nodes: &[Node],
+    coef: &[i128],
+    le: i128,
+    room: &mut Room,
+) -> Result<(), Fault>
+    requires forms { HasForms (player_of player.now) }
+    requires places { HasPlaces (player_of player.now) room.old.path.leaf }
+    requires coef { length coef.now ≡ length (player_of player.now).vars }
+    requires columns { length (player_of player.now).vars ≤ length room.old.sums.items }
+    requires frames { length nodes.now ≤ length room.old.path.frames.items }
+    requires few { length nodes.now < 2 ^ 32 }
+    requires nodes { All IsNodeForm (map node_of nodes.now) }
+    ensures ok { OnOk result ((t : TreeOf) → preorder t ≡ map node_of nodes.now → Passes (player_of player.now) (bound_of coef.now le) (root_leaf (player_of player.now)) t) }
+    ensures err { IfErr result (λ fault. (t : TreeOf) → preorder t ≡ map node_of nodes.now → IsRefusedAt (player_of player.now) (bound_of coef.now le) 0 (root_leaf (player_of player.now)) t fault) }
+    ensures size { IsSameSize room.old.path room.new.path }
+    ensures sums { length room.new.sums.items ≡ length room.old.sums.items }
+{
+    start(player, &mut room.path);
+    for (k, node) in nodes.iter().enumerate() {
+        visit(player, node, k as u32, coef, le, room)?;
+    }
+    Ok(())
+}
+
+/// Tests node `k` and goes on to its children or to the next leaf that is due.
+fn visit(
+    player: &Player,
+    node: &Node,
+    k: u32,
+    coef: &[i128],
+    le: i128,
+    room: &mut Room,
+) -> Result<(), Fault>
+    requires forms { HasForms (player_of player.now) }
+    requires path { IsPathOf (player_of player.now) room.old.path }
+    requires coef { length coef.now ≡ length (player_of player.now).vars }
+    requires columns { length (player_of player.now).vars ≤ length room.old.sums.items }
+    requires place { room.old.path.depth < length room.old.path.frames.items }
+    requires node { IsNodeForm (node_of node.now) }
+    ensures ok { OnOk result (NodePasses (player_of player.now) (bound_of coef.now le) (leaf_of room.old.path.leaf) (node_of node.now)) }
+    ensures entered { OnOk result (Entered (player_of player.now) (children (leaf_of room.old.path.leaf) (node_of node.now)) room.old.path room.new.path) }
+    ensures err { IfErr result (NodeRefused (player_of player.now) (bound_of coef.now le) k (leaf_of room.old.path.leaf) (node_of node.now)) }
+    ensures size { IsSameSize room.old.path room.new.path }
+    ensures sums { length room.new.sums.items ≡ length room.old.sums.items }
+{
+    match node {
+        Node::Split { var, at } => visit_split(player, *var, *at, k, &mut room.path),
+        Node::Choose { pair } => visit_choice(player, *pair, k, &mut room.path),
+        Node::Leaf { scale, mult } => visit_proof(player, *scale, mult, k, coef, le, room),
+        Node::Known { point: _ } => Err(Fault::Bad(k)),
+        Node::Loose => Err(Fault::Bad(k)),
+    }
+}
+
+fn visit_split(player: &Player, var: u32, at: i64, k: u32, path: &mut Path) -> Result<(), Fault>
+    requires at { at ≤ℤ pos 4611686018427387903 }
+    requires path { IsPathOf (player_of player.now) path.old }
+    requires place { path.old.depth < length path.old.frames.items }
+    ensures ok { OnOk result (IsWholeVar (player_of player.now) var) }
+    ensures entered { OnOk result (Entered (player_of player.now) (below (leaf_of path.old.leaf) var at ∷ above (leaf_of path.old.leaf) var at ∷ []) path.old path.new) }
+    ensures err { IfErr result (λ fault. (IsWholeVar (player_of player.now) var → ⊥) × (fault ≡ Fault.Bad k)) }
+    ensures size { IsSameSize path.old path.new }
+{
+    if !is_whole(player, var) {
+        return Err(Fault::Bad(k));
+    }
+    enter_split(player, var, at, path);
+    Ok(())
+}
+
+fn visit_choice(player: &Player, pair: u32, k: u32, path: &mut Path) -> Result<(), Fault>
+    requires path { IsPathOf (player_of player.now) path.old }
+    requires place { path.old.depth < length path.old.frames.items }
+    ensures ok { OnOk result (IsOpenPair (player_of player.now) (leaf_of path.old.leaf) pair) }
+    ensures entered { OnOk result (Entered (player_of player.now) (decided (leaf_of path.old.leaf) pair Side.VarZero ∷ decided (leaf_of path.old.leaf) pair Side.RowZero ∷ []) path.old path.new) }
+    ensures err { IfErr result (λ fault. (IsOpenPair (player_of player.now) (leaf_of path.old.leaf) pair → ⊥) × (fault ≡ Fault.Bad k)) }
+    ensures size { IsSameSize path.old path.new }
+{
+    if !is_open(player, pair, &path.leaf) {
+        return Err(Fault::Bad(k));
+    }
+    enter_choice(player, pair, path);
+    Ok(())
+}
+
+fn visit_proof(
+    player: &Player,
+    scale: i128,
+    mult: &[(u32, i128)],
+    k: u32,
+    coef: &[i128],
+    le: i128,
+    room: &mut Room,
+) -> Result<(), Fault>
+    requires forms { HasForms (player_of player.now) }
+    requires path { IsPathOf (player_of player.now) room.old.path }
+    requires coef { length coef.now ≡ length (player_of player.now).vars }
+    requires columns { length (player_of player.now).vars ≤ length room.old.sums.items }
+    ensures ok { OnOk result (ProofPasses (player_of player.now) (bound_of coef.now le) (leaf_of room.old.path.leaf) scale mult.now) }
+    ensures entered { OnOk result (Entered (player_of player.now) [] room.old.path room.new.path) }
+    ensures err { IfErr result (ProofRefused (player_of player.now) (bound_of coef.now le) k (leaf_of room.old.path.leaf) scale mult.now) }
+    ensures size { IsSameSize room.old.path room.new.path }
+    ensures sums { length room.new.sums.items ≡ length room.old.sums.items }
+{
+    match proves(
+        player,
+        &room.path.leaf,
+        scale,
+        mult,
+        coef,
+        le,
+        &mut room.sums,
+    ) {
+        Ok(true) => {
+            go_on(player, &mut room.path);
+            Ok(())
+        }
+        Ok(false) => Err(Fault::Bad(k)),
+        Err(_) => Err(Fault::Wide(k)),
+    }
+}
+
+/// Whether the player has a whole variable of this number.
+fn is_whole(player: &Player, var: u32) -> bool
+    ensures { IsTrue result ↔ IsWholeVar (player_of player.now) var }
+{
+    if var as usize >= player.vars.len() {
+        return false;
+    }
+    player.vars[var as usize].whole
+}
+
+/// Whether the player has a pair of this number, which is undecided at the leaf.
+fn is_open(player: &Player, pair: u32, leaf: &Leaf) -> bool
+    requires { HasPlaces (player_of player.now) leaf.now }
+    ensures { IsTrue result ↔ IsOpenPair (player_of player.now) (leaf_of leaf.now) pair }
+{
+    let pair = pair as usize;
+    pair < player.pairs.len() && leaf.sides[pair] == Side::Undecided
+}

@@ -1,0 +1,96 @@
+ghost use Rattle.std.specs.Prelude.{◌≡◌, ◌↔◌, ◌+◌, ◌^◌, ◌<◌, ◌≤◌, pos, ◌≤ℤ◌, IsTrue, map};
+ghost use Rattle.std.specs.List.{All};
+ghost use Rattle.zr_base.specs.Steps.{IsNarrow};
+ghost use Rattle.zr_tree.specs.Nodes.{node_of};
+ghost use Rattle.zr_tree.specs.Form.{AreMultipliers, IsNodeForm, IsTree, child_count, is_forest};
+
+use crate::node::Node;
+
+/// The greatest number that a variable is split at.
+const AT_LIMIT: i64 = 4_611_686_018_427_387_903;
+
+/// There are fewer nodes than this in a tree, and fewer slots at a leaf.
+const COUNT_LIMIT: usize = 1 << 32;
+
+/// Whether the nodes are a tree.
+pub(crate) fn is_tree(nodes: &[Node]) -> bool
+    ensures { IsTrue result ↔ IsTree (map node_of nodes.now) }
+{
+    let few = nodes.len() < COUNT_LIMIT;
+    is_one_tree(nodes) & few & are_forms(nodes)
+}
+
+/// Whether the nodes are one tree, with nothing after it.
+fn is_one_tree(nodes: &[Node]) -> bool
+    ensures { result ≡ is_forest 1 (map node_of nodes.now) }
+{
+    let mut due = 1;
+    for node in nodes {
+        if due == 0 {
+            return false;
+        }
+        due = due - 1 + count_of_children(node);
+    }
+    due == 0
+}
+
+fn count_of_children(node: &Node) -> usize
+    ensures { result ≡ child_count (node_of node.now) }
+{
+    match node {
+        Node::Split { var: _, at: _ } | Node::Choose { pair: _ } => 2,
+        Node::Leaf { scale: _, mult: _ } | Node::Known { point: _ } | Node::Loose => 0,
+    }
+}
+
+fn are_forms(nodes: &[Node]) -> bool
+    ensures { IsTrue result ↔ All IsNodeForm (map node_of nodes.now) }
+{
+    let mut all = true;
+    for node in nodes {
+        all &= is_form(node);
+    }
+    all
+}
+
+fn is_form(node: &Node) -> bool
+    ensures { IsTrue result ↔ IsNodeForm (node_of node.now) }
+{
+    match node {
+        Node::Split { var: _, at } => is_number_to_split_at(*at),
+        Node::Leaf { scale, mult } => is_scale(*scale) && are_multipliers(mult),
+        Node::Choose { pair: _ } | Node::Known { point: _ } | Node::Loose => true,
+    }
+}
+
+fn is_number_to_split_at(at: i64) -> bool
+    ensures { IsTrue result ↔ ((pos 0 ≤ℤ at) × (at ≤ℤ pos 4611686018427387903)) }
+{
+    0 <= at && at <= AT_LIMIT
+}
+
+fn is_scale(scale: i128) -> bool
+    ensures { IsTrue result ↔ ((pos 0 ≤ℤ scale) × IsNarrow scale) }
+{
+    scale >= 0
+}
+
+/// Whether multipliers are at least 1 and their slots ascend.
+fn are_multipliers(mult: &[(u32, i128)]) -> bool
+    ensures { IsTrue result ↔ AreMultipliers mult.now }
+{
+    let mut low = 0;
+    let mut all = true;
+    for (slot, by) in mult {
+        let slot = *slot as usize;
+        all &= is_next(low, slot, *by);
+        low = slot + 1;
+    }
+    all
+}
+
+fn is_next(low: usize, slot: usize, by: i128) -> bool
+    ensures { IsTrue result ↔ ((low ≤ slot) × (slot < 2 ^ 32) × ((pos 1 ≤ℤ by) × IsNarrow by)) }
+{
+    low <= slot && slot < COUNT_LIMIT && by >= 1
+}

@@ -1,0 +1,32 @@
+ghost use Rattle.std.specs.Prelude.{◌≡◌, ◌↔◌, ℕ, List};
+ghost use Rattle.std.specs.List.{All};
+ghost use Rattle.zr_base.specs.Points.{PointOf};
+ghost use Rattle.zr_game.specs.Players.{GameOf, PlayerOf};
+ghost use Rattle.zr_game.specs.Forms.{IsGame, IsPlayer};
+ghost use Rattle.zr_game.specs.Feasible.{IsFeasible};
+ghost use Rattle.zr_game.specs.Leaves.{Bound, BoundHolds, LeafOf, root_leaf};
+ghost use Rattle.zr_tree.specs.Nodes.{NodeOf};
+ghost use Rattle.zr_tree.specs.Form.{IsNodeForm, IsTree};
+ghost use Rattle.zr_tree.specs.Trees.{TreeOf, preorder};
+ghost use Rattle.zr_tree.specs.Right.{IsRight};
+ghost use Rattle.zr_tree.specs.Steps.{HasWideProof, IsRefusedAt, Passes};
+ghost use Rattle.zr_tree.specs.declared.fault.Fault.{Fault};
+
+/// A list of nodes that keeps the rules is the nodes of one tree, and of no other.
+pub fn law_of_nodes()
+    ensures some { (nodes : List NodeOf) → IsTree nodes → (t : TreeOf) × (preorder t ≡ nodes) }
+    ensures one { (s t : TreeOf) → preorder s ≡ preorder t → s ≡ t }
+{}
+
+/// A tree passes exactly where it is right and no step of its proofs is too wide; it is then not
+/// refused, and a tree that is refused has one fault.
+pub fn law_of_passing()
+    ensures passes { (player : PlayerOf) (bound : Bound) (leaf : LeafOf) (t : TreeOf) → Passes player bound leaf t ↔ (IsRight player bound leaf t × (HasWideProof player bound leaf t → ⊥)) }
+    ensures apart { (player : PlayerOf) (bound : Bound) (k : ℕ) (leaf : LeafOf) (t : TreeOf) (fault : Fault) → Passes player bound leaf t → IsRefusedAt player bound k leaf t fault → ⊥ }
+    ensures one { (player : PlayerOf) (bound : Bound) (k : ℕ) (leaf : LeafOf) (t : TreeOf) (f g : Fault) → IsRefusedAt player bound k leaf t f → IsRefusedAt player bound k leaf t g → f ≡ g }
+{}
+
+/// A row that a right tree proves holds at every feasible point.
+pub fn law_of_right_trees()
+    ensures { (game : GameOf) → IsGame game → (i : ℕ) (player : PlayerOf) → IsPlayer game i player → (bound : Bound) (t : TreeOf) → All IsNodeForm (preorder t) → IsRight player bound (root_leaf player) t → (x : PointOf) → IsFeasible player x → BoundHolds player x bound }
+{}

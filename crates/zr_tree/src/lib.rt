@@ -1,0 +1,24 @@
+//! Trees that prove a bound on a player's points.
+#![tactic(auto)]
+
+mod check;
+mod combination;
+mod fault;
+mod form;
+mod laws;
+mod node;
+mod path;
+mod proof;
+mod scratch;
+mod slot;
+mod tree;
+
+pub use check::bounds;
+pub use fault::Fault;
+pub use laws::{law_of_nodes, law_of_passing, law_of_right_trees};
+pub use node::Node;
+pub use scratch::Scratch;
+pub use tree::Tree;
+
+#[cfg(test)]
+mod tests;

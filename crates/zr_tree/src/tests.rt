@@ -1,0 +1,240 @@
+ghost use Rattle.std.specs.Prelude.{◌≡◌};
+
+use super::*;
+use smallvec::SmallVec;
+use std::alloc::Global;
+use std::test::Fail;
+use zr_base::Row;
+use zr_game::{Game, Leaf, Pair, Player, Var};
+
+/// A node as a table writes it.
+#[derive(Clone, Copy)]
+enum Line<'a> {
+    Split(u32, i64),
+    Choose(u32),
+    Leaf(i128, &'a [(u32, i128)]),
+    Loose,
+}
+
+fn node(alloc: Global, line: Line) -> Result<Node, Fail> {
+    Ok(match line {
+        Line::Split(var, at) => Node::Split { var, at },
+        Line::Choose(pair) => Node::Choose { pair },
+        Line::Leaf(scale, mult) => Node::Leaf {
+            scale,
+            mult: Vec::from_slice(alloc, mult)?,
+        },
+        Line::Loose => Node::Loose,
+    })
+}
+
+/// What the tree's check answers for a row of the game's first player.
+fn answer(
+    alloc: Global,
+    game: &Game,
+    lines: &[Line],
+    coef: &[i128],
+    le: i128,
+) -> Result<Result<(), Fault>, Fail> {
+    let mut nodes = Vec::new(alloc);
+    for line in lines {
+        nodes.push(node(alloc, *line)?)?;
+    }
+    let Ok(tree) = Tree::new(nodes) else {
+        return Err(Fail::from("no tree"));
+    };
+    let Ok(mut scratch) = Scratch::new(alloc, game, tree.nodes.len(), coef.len()) else {
+        return Err(Fail::from("no memory"));
+    };
+    if game.players[0].vars.len() != coef.len() {
+        return Err(Fail::from("another number of columns"));
+    }
+    Ok(bounds(game, 0, &tree, coef, le, &mut scratch))
+}
+
+fn variable(alloc: Global, whole: bool, up: Option<i64>) -> Result<Var, Fail> {
+    Ok(Var {
+        name: String::from_str(alloc, "x")?,
+        whole,
+        up,
+    })
+}
+
+/// The game of one player.
+fn game(alloc: Global, vars: Vec<Var>, rows: Vec<Row>, pairs: Vec<Pair>) -> Result<Game, Fail> {
+    let player = Player {
+        name: String::from_str(alloc, "p")?,
+        vars,
+        rows,
+        pairs,
+        cost: SmallVec::from_slice(alloc, &[(0, -1)])?,
+        cross: Vec::new(alloc),
+    };
+    match Game::new(vec![in alloc; player]?) {
+        Ok(game) => Ok(game),
+        Err(_) => Err(Fail::from("no game")),
+    }
+}
+
+/// A whole variable with `2x <= 5`.
+fn whole_game(alloc: Global) -> Result<Game, Fail> {
+    let vars = vec![in alloc; variable(alloc, true, None)?]?;
+    let coef = SmallVec::from_slice(alloc, &[(0, 2)])?;
+    let rows = vec![in alloc; Row { coef, le: 5 }]?;
+    game(alloc, vars, rows, Vec::new(alloc))
+}
+
+/// A whole variable up to 3 and another one, with `x + y <= 4`.
+fn mixed_game(alloc: Global) -> Result<Game, Fail> {
+    let x = variable(alloc, true, Some(3))?;
+    let y = variable(alloc, false, None)?;
+    let coef = SmallVec::from_slice(alloc, &[(0, 1), (1, 1)])?;
+    let rows = vec![in alloc; Row { coef, le: 4 }]?;
+    game(alloc, vec![in alloc; x, y]?, rows, Vec::new(alloc))
+}
+
+/// A variable that is 0 or 2, with `x - 2 >= 0`.
+fn pair_game(alloc: Global) -> Result<Game, Fail> {
+    let vars = vec![in alloc; variable(alloc, false, None)?]?;
+    let coef = SmallVec::from_slice(alloc, &[(0, 1)])?;
+    let pairs = vec![in alloc;
+        Pair {
+            var: 0,
+            coef,
+            add: -2
+        },
+    ]?;
+    game(alloc, vars, Vec::new(alloc), pairs)
+}
+
+/// Lines, a row's numbers and its right side, and what the check answers.
+type Case<'a> = (&'a [Line<'a>], &'a [i128], i128, Result<(), Fault>);
+
+const MOST: i128 = i128::MAX;
+
+#[test]
+fn trees_over_a_whole_variable(rt: HostRuntime) -> Result<(), Fail> {
+    use Fault::{Bad, Wide};
+    use Line::{Leaf, Loose, Split};
+    let game = whole_game(rt.alloc())?;
+    let at_most_two = Leaf(1, &[(2, 1)]);
+    let above_two = Leaf(0, &[(0, 1), (1, 2)]);
+    let table: [Case; 16] = [
+        (&[Split(0, 2), at_most_two, above_two], &[1], 2, Ok(())),
+        (
+            &[Split(0, 2), at_most_two, Leaf(0, &[(0, 1), (1, 1)])],
+            &[1],
+            2,
+            Err(Bad(2)),
+        ),
+        (
+            &[Split(0, 2), at_most_two, at_most_two],
+            &[1],
+            2,
+            Err(Bad(2)),
+        ),
+        (&[Split(0, 1), at_most_two, above_two], &[1], 2, Err(Bad(2))),
+        (&[Split(0, 2), Loose, above_two], &[1], 2, Err(Bad(1))),
+        (&[Split(1, 2), at_most_two, above_two], &[1], 2, Err(Bad(0))),
+        (
+            &[Split(0, 0), Leaf(0, &[(1, 1), (2, 1)]), Loose],
+            &[1],
+            2,
+            Err(Bad(1)),
+        ),
+        (&[Leaf(2, &[(0, 1)])], &[1], 3, Ok(())),
+        (&[Leaf(2, &[(0, 1)])], &[1], 2, Err(Bad(0))),
+        (&[Leaf(1, &[(0, 1)])], &[2], 5, Ok(())),
+        (&[at_most_two], &[1], 2, Err(Bad(0))),
+        (&[Leaf(1, &[(3, 1)])], &[1], 2, Err(Bad(0))),
+        (&[Leaf(1, &[(0, MOST)])], &[1], 2, Err(Wide(0))),
+        (&[Leaf(1, &[(0, MOST), (2, 1)])], &[1], 2, Err(Bad(0))),
+        (&[Leaf(2, &[(0, 1)])], &[MOST], 3, Err(Wide(0))),
+        (
+            &[Split(0, 2), at_most_two, Leaf(1, &[(0, MOST)])],
+            &[1],
+            2,
+            Err(Wide(2)),
+        ),
+    ];
+    for (lines, coef, le, expected) in &table {
+        assert_eq!(rt; answer(rt.alloc(), &game, lines, coef, *le)?, *expected);
+    }
+    Ok(())
+}
+
+#[test]
+fn trees_over_two_variables(rt: HostRuntime) -> Result<(), Fail> {
+    use Fault::Bad;
+    use Line::{Leaf, Loose, Split};
+    let game = mixed_game(rt.alloc())?;
+    let table: [Case; 6] = [
+        (&[Leaf(1, &[(2, 1)])], &[1, 0], 3, Ok(())),
+        (&[Leaf(1, &[(0, 1), (3, 1)])], &[1, 0], 4, Ok(())),
+        (&[Leaf(1, &[(0, 1)])], &[1, 0], 4, Err(Bad(0))),
+        (
+            &[Split(0, 5), Leaf(1, &[(2, 1)]), Leaf(0, &[(1, 1), (2, 1)])],
+            &[1, 0],
+            3,
+            Ok(()),
+        ),
+        (
+            &[
+                Split(0, 1),
+                Split(0, 0),
+                Leaf(1, &[(2, 2)]),
+                Leaf(1, &[(2, 1)]),
+                Loose,
+            ],
+            &[2, 0],
+            0,
+            Err(Bad(3)),
+        ),
+        (&[Split(1, 1), Loose, Loose], &[1, 0], 3, Err(Bad(0))),
+    ];
+    for (lines, coef, le, expected) in &table {
+        assert_eq!(rt; answer(rt.alloc(), &game, lines, coef, *le)?, *expected);
+    }
+    Ok(())
+}
+
+#[test]
+fn trees_over_a_pair(rt: HostRuntime) -> Result<(), Fail> {
+    use Fault::Bad;
+    use Line::{Choose, Leaf, Loose};
+    let game = pair_game(rt.alloc())?;
+    let none = Leaf(0, &[(2, 1), (3, 1)]);
+    let table: [Case; 6] = [
+        (&[Choose(0), none, Leaf(1, &[(3, 1)])], &[1], 2, Ok(())),
+        (&[Choose(0), none, none], &[1], 2, Err(Bad(2))),
+        (
+            &[Choose(0), Choose(0), Loose, Loose, Loose],
+            &[1],
+            2,
+            Err(Bad(1)),
+        ),
+        (
+            &[Choose(0), none, Choose(0), Loose, Loose],
+            &[1],
+            2,
+            Err(Bad(2)),
+        ),
+        (&[Choose(1), Loose, Loose], &[1], 2, Err(Bad(0))),
+        (&[Leaf(1, &[(2, 1)])], &[-1], -2, Ok(())),
+    ];
+    for (lines, coef, le, expected) in &table {
+        assert_eq!(rt; answer(rt.alloc(), &game, lines, coef, *le)?, *expected);
+    }
+    Ok(())
+}
+
+#[test]
+fn root_leaves(rt: HostRuntime) -> Result<(), Fail> {
+    let whole = whole_game(rt.alloc())?;
+    let Ok(leaf) = Leaf::root(rt.alloc(), &whole, 0) else {
+        return Err(Fail::from("no memory"));
+    };
+    assert_eq!(rt; leaf.low.len(), 1);
+    assert_eq!(rt; leaf.settled(&whole, 0), false);
+    Ok(())
+}
