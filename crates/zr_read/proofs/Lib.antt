@@ -1,0 +1,13 @@
+pub mod Places
+pub mod Walks
+pub mod Behind
+pub mod Borrowed
+pub mod Ascending
+pub mod Lists
+pub mod Ordered
+pub mod Sound
+pub mod Answering
+pub mod Exclusive
+pub mod PartsBack
+pub mod CrossBack
+pub mod GameBack

@@ -1,0 +1,12 @@
+use Rattle.std.proofs.Common.{◌≡◌, length, [], map}
+use Rattle.zr_read.specs.Passes.{heading_of, heading_name, variable_names, add_heading}
+use Rattle.zr_read.proofs.Walks.{Walked}
+use Rattle.zr_read.proofs.players.read_each_heading.Given as goal
+
+abbrev pub invariant-loop-i : goal.invariant-loop-i
+invariant-loop-i l = record {
+  walked : Walked add_heading [] l.items l.i (map heading_of l.list.items);
+  count : length l.list.items ≡ l.i;
+  players : l.players ≡ map heading_name (map heading_of l.list.items);
+  variables : l.variables.items ≡ map variable_names (map heading_of l.list.items);
+}

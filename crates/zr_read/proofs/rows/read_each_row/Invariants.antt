@@ -1,0 +1,10 @@
+use Rattle.std.proofs.Common.{[], map}
+use Rattle.zr_base.specs.Rows.{row_of}
+use Rattle.zr_read.specs.Parts.{add_row}
+use Rattle.zr_read.proofs.Walks.{Walked}
+use Rattle.zr_read.proofs.rows.read_each_row.Given as goal
+
+abbrev pub invariant-loop-i : goal.invariant-loop-i
+invariant-loop-i l = record {
+  walked : Walked (add_row l.names) [] l.items l.i (map row_of l.list.items);
+}
