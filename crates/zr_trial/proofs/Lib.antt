@@ -1,0 +1,16 @@
+pub mod Strides
+pub mod Counts
+pub mod SmallSteps
+pub mod Choosing
+pub mod PlayerForms
+pub mod TupleNumbers
+pub mod PointNumbers
+pub mod Lists
+pub mod WholeCosts
+pub mod Picking
+pub mod LeastCosts
+pub mod Entries
+pub mod TableLaws
+pub mod ValueOrder
+pub mod StableTuples
+pub mod PureTuples

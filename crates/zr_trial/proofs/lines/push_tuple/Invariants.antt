@@ -1,0 +1,11 @@
+use Rattle.std.proofs.Common.{◌≡◌, ◌+◌, ◌*◌, length}
+use Rattle.zr_game.specs.Games.{game_of}
+use Rattle.zr_trial.specs.Choices.{lists_of}
+use Rattle.zr_trial.specs.Trials.{AreEntries}
+use Rattle.zr_trial.proofs.lines.push_tuple.Given as goal
+
+abbrev pub invariant-loop-i : goal.invariant-loop-i
+invariant-loop-i l = record {
+  len : length l.table.costs.items ≡ l.n * length (game_of l.game) + l.i;
+  entries : AreEntries (game_of l.game) (lists_of l.lists) l.table.costs.items l.table.lines.items;
+}

@@ -1,0 +1,5 @@
+pub mod Reach
+pub mod First
+pub mod Numbering
+pub mod Choices
+pub mod Trials
