@@ -1,0 +1,85 @@
+-- What was written by one call after another, each of which may have failed.
+use Rattle.std.proofs.Common.{◌≡◌, ◌++◌, length, Option, Result, Ok, Err, OnOk, OnErr, ◌∷◌, [], codes, refl, sym, ap, ◌∙◌, subst, append_assoc, arith}
+use Rattle.std.proofs.lemmas.List.{take_all, take-append-le, length-append}
+use Rattle.zr_io.specs.Contents.{Bytes}
+use Rattle.zr_io.specs.Written.{Appends, AppendsPrefix}
+use Rattle.zr_read.specs.Faults.{fault_name}
+use Rattle.zr_read.specs.declared.fault.GameFault.{GameFault}
+use Rattle.zr_read.specs.declared.fault.GameFault.TheVariants.{NotJson, Format, Missing, Kind, NotWhole, TooBig, BadName, Twice, UnknownName, OwnCross, Count}
+use Rattle.zero.specs.Answers.{message, fault_line, fault_text}
+use Rattle.zr_io.proofs.AppendsLemmas.{appends_append, appends_prefix_append}
+
+-- a prefix of a piece is one of the piece and another
+pub longer_prefix : (a c : Option Bytes) (p q : Bytes) → AppendsPrefix a p c → AppendsPrefix a (p ++ q) c
+longer_prefix a c p q h = (h.0, omega (arith, h.1, length-append p q), rw (take-append-le h.0 p q h.1) h.2)
+
+-- a prefix of the first piece is one of the line
+pub first_prefix : (a c : Option Bytes) (p q w : Bytes) → p ++ q ≡ w → AppendsPrefix a p c → AppendsPrefix a w c
+first_prefix a c p q w join h = subst (λ v. AppendsPrefix a v c) join (longer_prefix a c p q h)
+
+module _ {T E : Type 0} (a b c : Option Bytes) (p q w : Bytes) (join : p ++ q ≡ w) (r : Result T E) where
+  -- a piece was written, and then another
+  pub ok_then : Appends a p b → OnOk r (Appends b q c) → OnOk r (Appends a w c)
+  ok_then = then r
+    where
+      then : (r : Result T E) → Appends a p b → OnOk r (Appends b q c) → OnOk r (Appends a w c)
+      then (Ok x) front next = subst (λ v. Appends a v c) join (appends_append a b c p q front next)
+      then (Err e) front next = tt
+
+  pub err_then : Appends a p b → OnErr r (AppendsPrefix b q c) → OnErr r (AppendsPrefix a w c)
+  err_then = then r
+    where
+      then : (r : Result T E) → Appends a p b → OnErr r (AppendsPrefix b q c) → OnErr r (AppendsPrefix a w c)
+      then (Ok x) front next = tt
+      then (Err e) front next = subst (λ v. AppendsPrefix a v c) join (appends_prefix_append a b c p q front next)
+
+-- the same piece in other words
+pub ok_same : {T E : Type 0} (a c : Option Bytes) (p w : Bytes) (r : Result T E) → p ≡ w → OnOk r (Appends a p c) → OnOk r (Appends a w c)
+ok_same a c p w r e h = subst (λ v. OnOk r (Appends a v c)) e h
+
+pub err_same : {T E : Type 0} (a c : Option Bytes) (p w : Bytes) (r : Result T E) → p ≡ w → OnErr r (AppendsPrefix a p c) → OnErr r (AppendsPrefix a w c)
+err_same a c p w r e h = subst (λ v. OnErr r (AppendsPrefix a v c)) e h
+
+-- as far as it was written, with an error or without one
+pub line_written : {T E : Type 0} (a c : Option Bytes) (p : Bytes) (r : Result T E) → OnOk r (Appends a p c) → OnErr r (AppendsPrefix a p c) → AppendsPrefix a p c
+line_written a c p (Ok x) ok err = (length p, omega arith, rw (take_all (length p) p (omega arith)) ok)
+line_written a c p (Err e) ok err = err
+
+-- what stands after any error
+pub on_err : {T E : Type 0} (r : Result T E) (P : Type 0) → P → OnErr r P
+on_err (Ok x) P h = tt
+on_err (Err e) P h = h
+
+-- ---- the line of a fault
+
+pub fault_text_else : (fault : GameFault) (path : Bytes) → (fault ≡ NotJson → ⊥) → fault_text fault path ≡ fault_name fault ++ 32 ∷ path
+fault_text_else NotJson path h = absurd (h refl)
+fault_text_else Format path h = refl
+fault_text_else Missing path h = refl
+fault_text_else Kind path h = refl
+fault_text_else NotWhole path h = refl
+fault_text_else TooBig path h = refl
+fault_text_else BadName path h = refl
+fault_text_else Twice path h = refl
+fault_text_else UnknownName path h = refl
+fault_text_else OwnCross path h = refl
+fault_text_else Count path h = refl
+
+rejoin : (a n s p e : Bytes) → ((a ++ n) ++ s) ++ (p ++ e) ≡ (a ++ (n ++ (s ++ p))) ++ e
+rejoin a n s p e = simp append_assoc
+
+-- the line in the two pieces that are written
+pub fault_pieces : (fault : GameFault) (path name : Bytes) → (fault ≡ NotJson → ⊥) → name ≡ fault_name fault
+    → ((codes "zero: game: " ++ name) ++ 32 ∷ []) ++ (path ++ 10 ∷ []) ≡ fault_line fault path
+fault_pieces fault path name other e =
+    ap (λ n. ((codes "zero: game: " ++ n) ++ 32 ∷ []) ++ (path ++ 10 ∷ [])) e
+    ∙ rejoin (codes "zero: game: ") (fault_name fault) (32 ∷ []) path (10 ∷ [])
+    ∙ ap message (ap (λ t. codes "game: " ++ t) (sym (fault_text_else fault path other)))
+
+-- ---- the line of a long content
+
+pub too_long : (name : Bytes) → (codes "zero: " ++ name) ++ (codes " is longer than 8388608 bytes" ++ 10 ∷ []) ≡ message (name ++ codes " is longer than 8388608 bytes")
+too_long name = joined (codes "zero: ") name (codes " is longer than 8388608 bytes") (10 ∷ [])
+  where
+    joined : (a n b e : Bytes) → (a ++ n) ++ (b ++ e) ≡ (a ++ (n ++ b)) ++ e
+    joined a n b e = simp append_assoc

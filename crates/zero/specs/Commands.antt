@@ -1,0 +1,32 @@
+-- What the words of the command line ask for.
+use Rattle.std.specs.Prelude.{◌≡◌, ℕ, List, [], ◌∷◌, codes, ◌⊎◌}
+
+abbrev pub Bytes : Type 0
+Bytes = List ℕ
+
+-- the words without the program's name
+abbrev pub Words : Type 0
+Words = List Bytes
+
+-- `solve GAME --kind pure`
+abbrev pub IsSolvePure : Words → Bytes → Type 0
+IsSolvePure words name = words ≡ codes "solve" ∷ name ∷ codes "--kind" ∷ codes "pure" ∷ []
+
+-- `solve GAME`, or `solve GAME --kind mixed`
+abbrev pub IsSolveMixed : Words → Bytes → Type 0
+IsSolveMixed words name =
+    (words ≡ codes "solve" ∷ name ∷ []) ⊎ (words ≡ codes "solve" ∷ name ∷ codes "--kind" ∷ codes "mixed" ∷ [])
+
+-- the first word is `play`, `check`, `best` or `gen`
+abbrev pub IsOtherAction : Words → Type 0
+IsOtherAction words =
+    (rest : Words) × ((words ≡ codes "play" ∷ rest) ⊎ (words ≡ codes "check" ∷ rest) ⊎ (words ≡ codes "best" ∷ rest) ⊎ (words ≡ codes "gen" ∷ rest))
+
+-- words of an action that isn't built yet
+abbrev pub IsUnbuiltCommand : Words → Type 0
+IsUnbuiltCommand words = ((name : Bytes) × IsSolveMixed words name) ⊎ IsOtherAction words
+
+-- words of no action
+pub record IsFaultyCommand (words : Words) : Type 0 where
+  pub no_solve : (name : Bytes) → IsSolvePure words name → ⊥
+  pub no_other : IsUnbuiltCommand words → ⊥

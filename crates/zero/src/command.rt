@@ -1,0 +1,75 @@
+ghost use Rattle.std.specs.Prelude.{◌≡◌, ◌↔◌, [], ◌∷◌, codes, map, string_bytes, IsTrue, slice_get, Some};
+ghost use Rattle.zero.specs.Commanded.{Says};
+ghost use Rattle.zero.specs.Commands.{Bytes, IsOtherAction, IsUnbuiltCommand};
+
+/// What the words of the command line ask for.
+#[derive(Clone, Copy, Debug)]
+pub enum Command<'a> {
+    /// `solve GAME --kind pure`.
+    SolvePure { name: &'a str },
+    /// An action that isn't built yet.
+    Unbuilt,
+    /// Words of no action.
+    Faulty,
+}
+
+/// The command of the words, which are without the program's name.
+pub fn command_of(words: &[String]) -> Command<'_>
+    ensures { Says (map string_bytes words.now) result }
+{
+    if is_solve_of_kind(words, "pure") {
+        Command::SolvePure {
+            name: words[1].as_str(),
+        }
+    } else if is_unbuilt(words) {
+        Command::Unbuilt
+    } else {
+        Command::Faulty
+    }
+}
+
+/// Whether the words ask for what isn't built yet.
+fn is_unbuilt(words: &[String]) -> bool
+    ensures { IsTrue result ↔ IsUnbuiltCommand (map string_bytes words.now) }
+{
+    is_solve(words) || is_solve_of_kind(words, "mixed") || is_other_action(words)
+}
+
+/// Whether the words are `solve GAME`.
+fn is_solve(words: &[String]) -> bool
+    ensures { IsTrue result ↔ ((name : Bytes)
+        × (map string_bytes words.now ≡ codes "solve" ∷ name ∷ [])) }
+{
+    words.len() == 2 && is_word(words, 0, "solve")
+}
+
+/// Whether the words are `solve GAME --kind`, and then this kind.
+fn is_solve_of_kind(words: &[String], kind: &str) -> bool
+    ensures { IsTrue result ↔ ((name : Bytes)
+        × (map string_bytes words.now ≡ codes "solve" ∷ name ∷ codes "--kind" ∷ kind.now ∷ [])) }
+{
+    words.len() == 4
+        && is_word(words, 0, "solve")
+        && is_word(words, 2, "--kind")
+        && is_word(words, 3, kind)
+}
+
+/// Whether the first word is an action other than `solve`.
+fn is_other_action(words: &[String]) -> bool
+    ensures { IsTrue result ↔ IsOtherAction (map string_bytes words.now) }
+{
+    is_word(words, 0, "play")
+        || is_word(words, 0, "check")
+        || is_word(words, 0, "best")
+        || is_word(words, 0, "gen")
+}
+
+/// Whether this text stands at the place.
+fn is_word(words: &[String], at: usize, text: &str) -> bool
+    ensures { IsTrue result ↔ (slice_get (map string_bytes words.now) at ≡ Some text.now) }
+{
+    match words.get(at) {
+        Some(word) => word.as_str() == text,
+        None => false,
+    }
+}

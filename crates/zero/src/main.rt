@@ -1,0 +1,50 @@
+//! Decides whether a game has an equilibrium in which each player plays one point:
+//! `zero solve GAME --kind pure`, where GAME is a file, or `-` for standard input.
+#![tactic(auto)]
+
+mod answer;
+mod command;
+mod refusal;
+mod run;
+mod short;
+#[cfg(test)]
+mod tests;
+
+use crate::refusal::Refusal;
+use crate::run::zero_run;
+use std::env;
+use std::io::ErrorKind;
+use std::process::ExitCode;
+use std::rt::Env;
+use zr_io::{FileShelf, StdSink};
+
+/// The words of the command line without the program's name.
+///
+/// A word that is no text makes the whole line faulty.
+fn words_of<R: Env + AllocGlobal>(rt: &R) -> Result<Vec<String>, Refusal<'static>> {
+    match env::args(rt) {
+        Ok(args) => match args.skip(1).collect(rt.alloc()) {
+            Ok(words) => Ok(words),
+            Err(_) => Err(Refusal::NoMemory),
+        },
+        Err(e) if e.kind() == ErrorKind::OutOfMemory => Err(Refusal::NoMemory),
+        Err(_) => Err(Refusal::Usage),
+    }
+}
+
+fn main(rt: HostRuntime) -> ExitCode {
+    let alloc = rt.alloc();
+    let mut err = StdSink::new(rt.stderr());
+    let status = match words_of(&rt) {
+        Ok(words) => {
+            let mut shelf = FileShelf::new(alloc, &rt);
+            let mut out = StdSink::new(rt.stdout());
+            zero_run(alloc, words.as_slice(), &mut shelf, &mut out, &mut err)
+        }
+        Err(refusal) => {
+            let _ = refusal.say(&mut err);
+            refusal.status()
+        }
+    };
+    ExitCode::from(status)
+}
