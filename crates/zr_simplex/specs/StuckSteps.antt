@@ -17,10 +17,10 @@ pub record AreCoprimeParts (p a by less : ℤ) : Type 0 where
   pub first : by *ℤ over ≡ p
   pub second : less *ℤ over ≡ a
 
--- where the equation f of a pivot at column col changes the equation e, w is the step that makes the number at column j
+-- where the equation f of a pivot at column col changes the equation e, whose number there isn't zero, w is the step that makes the number at column j
 abbrev pub IsWidePivot : (ℕ → ℤ) → (ℕ → ℤ) → ℕ → ℕ → Wide → Type 0
 IsWidePivot f e col j w =
-    (by : ℤ) × (less : ℤ) × AreCoprimeParts (f col) (e col) by less × (cross_of (by, e j) (less, f j) ≡ Err w)
+    (by : ℤ) × (less : ℤ) × (f col ≢ pos 0) × (e col ≢ pos 0) × AreCoprimeParts (f col) (e col) by less × (cross_of (by, e j) (less, f j) ≡ Err w)
 
 -- den is the least common multiple of the first equations' numbers at their own columns
 pub record IsMultiple (basis : ℕ → ℕ) (form : ℕ → ℕ → ℤ) (last : ℕ) (den : ℤ) : Type 0 where
@@ -37,10 +37,10 @@ IsWideMultiple basis form row w =
 abbrev pub IsNumerator : (ℕ → ℕ) → (ℕ → ℕ → ℤ) → ℤ → (ℕ → ℤ) → ℕ → ℤ → Type 0
 IsNumerator basis form den value i x = form i (basis i) *ℤ x ≡ value i *ℤ den
 
--- w is the step that makes the numerator of this row over the multiple of all, and the numerators before it are narrow
+-- w is the step that makes the numerator of this row over the multiple of all, which is narrow, as are the numerators before it
 abbrev pub IsWideNumerator : (ℕ → ℕ) → (ℕ → ℕ → ℤ) → ℕ → (ℕ → ℤ) → ℕ → Wide → Type 0
 IsWideNumerator basis form rows value row w =
-    (den : ℤ) × (part : ℤ) × IsMultiple basis form rows den × ((i : ℕ) → i < row → (x : ℤ) × IsNumerator basis form den value i x × IsNarrow x) × (part *ℤ form row (basis row) ≡ den) × (cross_of (value row, part) (pos 0, pos 0) ≡ Err w)
+    (den : ℤ) × (part : ℤ) × IsNarrow den × IsMultiple basis form rows den × ((i : ℕ) → i < row → (x : ℤ) × IsNumerator basis form den value i x × IsNarrow x) × (part *ℤ form row (basis row) ≡ den) × (cross_of (value row, part) (pos 0, pos 0) ≡ Err w)
 
 -- w is one of the two at this row, where the numerators are those of `value`
 abbrev pub IsWideAt : ℕ → (ℕ → ℕ) → (ℕ → ℕ → ℤ) → (ℕ → ℤ) → ℕ → Wide → Type 0
@@ -54,7 +54,7 @@ IsWideStep p basis form (AStep.Pivot row col at_row at_col) w =
 IsWideStep p basis form (AStep.Point row) w =
     IsWideAt p.rows basis form (λ i. form i (right_column p)) row w
 IsWideStep p basis form (AStep.Ray row col) w =
-    IsWideAt p.rows basis form (λ i. neg_ℤ (form i col)) row w
+    (col < value_column p) × ((i : ℕ) → i < p.rows → col ≢ basis i) × IsWideAt p.rows basis form (λ i. neg_ℤ (form i col)) row w
 
 -- the kept columns are a basis of the program, and the kept step of its basic form is the kept one and too wide
 abbrev pub IsStuck : Program → Stuck → Type 0

@@ -1,4 +1,4 @@
-use Rattle.std.proofs.Common.{rules, ◌≡◌, ◌<◌, ℕ, arith, sym, pos, get_or, length, FitsSigned, to_z, Ok, ap, ◌∙◌}
+use Rattle.std.proofs.Common.{rules, ◌≡◌, ◌<◌, ℕ, arith, sym, pos, get_or, length, FitsSigned, of_z, to_z, Ok, ap, ◌∙◌}
 use Rattle.std.proofs.lemmas.Int.{to_z_pos, to_z-of_z}
 use Rattle.std.proofs.lemmas.Result.{err_from_is_err_and}
 use Rattle.std.specs.Int.{w128}
@@ -33,7 +33,7 @@ returns-in_err-common-clause-err c =
     let x : FitsSigned w128 c.coprime_parts-by.result.0 = search rules in
     let y : FitsSigned w128 c.coprime_parts-by.result.1 = search rules in
     let e = simp to_z-of_z at c.in_err-common.ensures.err in
-    rw (p.1, p.2) (e.0, (c.coprime_parts-by.result.0, c.coprime_parts-by.result.1, low at.After-subtract, e.1))
+    rw (p.1, p.2) (e.0, (c.coprime_parts-by.result.0, c.coprime_parts-by.result.1, c.requires.apart, λ zero. c.if-row-column-eq0.false (ap (of_z w128) zero), low at.After-subtract, e.1))
 
 pub reduce-requires-clause-apart : goal.reduce-requires-clause-apart
 reduce-requires-clause-apart c =

@@ -45,7 +45,7 @@ returns-in-Err-clause-err c =
     let step : cross_of (value, c.quotient-part.result) (pos 0, pos 0) ≡ Err c.in-Err.wide = sym (rw (signs at.After-with_sign) at (simp to_z-of_z at c.cross.ensures)) ∙ c.in-Err.is in
     let inv = c.loop-i.invariant in
     let on = simp to_z-of_z at inv.on in
-    (c.loop-i-test.true, (c.args.den, c.quotient-part.result, c.requires.multiple, λ k h. (numbers c.loop-i.places (basis k), on k h, inv.narrow (basis k) (pos 0) (omega (arith, c.loop-i.auto.places, c.requires.places k (omega (arith, h, c.loop-i-test.true))))), exact at.After-quotient-part, step))
+    (c.loop-i-test.true, (c.args.den, c.quotient-part.result, c.requires.narrow, c.requires.multiple, λ k h. (numbers c.loop-i.places (basis k), on k h, inv.narrow (basis k) (pos 0) (omega (arith, c.loop-i.auto.places, c.requires.places k (omega (arith, h, c.loop-i-test.true))))), exact at.After-quotient-part, step))
 
 pub loop-i-preserved : goal.loop-i-preserved
 loop-i-preserved c =
