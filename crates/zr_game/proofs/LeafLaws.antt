@@ -1,8 +1,5 @@
 -- Leaves as functions, and when they are settled.
-use Rattle.std.proofs.Common.{◌≡◌, ◌↔◌, ℕ, zero, suc, [], ◌∷◌, ◌<◌, ◌≤◌, arith, refl, sym, ap, ◌∙◌, pos, Bool, true, ◌&&◌, IsTrue, Option, Some, None, List, length, map, replicate, get_or, slice_get, option_map, ⊎_elim, ◌⊎◌}
-use Rattle.std.proofs.lemmas.List.{get_or-replicate, get_or_past, get_or-map, length-map}
-use Rattle.std.proofs.lemmas.Option.{slice_get_cases, slice_get-map}
-use Rattle.std.specs.Option.{option_and_then}
+use Rattle.std.proofs.Common.{◌≡◌, ◌↔◌, ℕ, zero, suc, [], ◌∷◌, ◌<◌, refl, Bool, true, ◌&&◌, IsTrue, Some, None, List, length, map, replicate, get_or, slice_get}
 use Rattle.zr_base.proofs.Telling.{both_true, true_both}
 use Rattle.zr_game.specs.declared.player.Var.{Var}
 use Rattle.zr_game.specs.declared.leaf.Side.TheVariants.{Undecided}

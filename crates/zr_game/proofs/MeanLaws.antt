@@ -107,7 +107,7 @@ module _ (game : GameOf) (profile : Profile) (valid : IsProfile game profile) wh
     pub at_mean : IsSame (expected_cost player i profile) (along_slope player profile (mean (strategy_of profile i)))
     at_mean = along (mean (strategy_of profile i)) (λ v h. mean_den v) (λ v h. refl)
 
-    expected_den : (pos 0) <ℤ (expected_cost player i profile).den
+    pub expected_den : (pos 0) <ℤ (expected_cost player i profile).den
     expected_den =
         expected_positive player i (length player.vars) profile (den_of_all profile) (positive_all profile dens) (shared_by_all profile dens) full (here i player is) cost_form cross_form
 

@@ -20,6 +20,7 @@ pub use laws::{
 pub use leaf::{Leaf, Side};
 pub use player::{CrossTerm, Pair, Player, Var};
 pub use substitution::feasible;
+pub use zr_base::NoMemory;
 
 #[cfg(test)]
 mod tests;

@@ -42,7 +42,7 @@ module _ (game : GameOf) (form : IsGame game) (profile : Profile) (valid : IsPro
     slope_worth v h =
         let s = claim.are_slopes.each v h in
         let len = claim.are_slopes.len in
-        worth_of_same claim.by (item_of claim.slopes v) (slope player profile v) (neg_ℤ (slice_index_or left v (pos 0))) (slope_den game profile valid i player is (form.players i player is) v) s.same (claim_worth claim.by (neg_ℤ (slice_index_or left v (pos 0))) (item_of claim.slopes v) s.lowest.ratio.positive (claim.claim.lefts v (omega (arith, h, len))))
+        worth_of_same claim.by (item_of claim.slopes v) (slope player profile v) (neg_ℤ (slice_index_or left v (pos 0))) (slope_den game profile valid i player is (form.players i player is) v) s.same (claim_worth claim.by (neg_ℤ (slice_index_or left v (pos 0))) (item_of claim.slopes v) s.positive (claim.claim.lefts v (omega (arith, h, len))))
 
     at_point : Worth (claim.by *ℤ x.den) (along_slope player profile (value_of x)) (sum_to (length player.vars) (λ v. neg_ℤ (slice_index_or left v (pos 0)) *ℤ num_of x v))
     at_point =
@@ -50,7 +50,7 @@ module _ (game : GameOf) (form : IsGame game) (profile : Profile) (valid : IsPro
 
     at_own : Worth (claim.by *ℤ x.den) (along_slope player profile (mean (strategy_of profile i))) (neg_ℤ right *ℤ x.den)
     at_own =
-        worth-wider claim.by x.den (along_slope player profile (mean (strategy_of profile i))) (neg_ℤ right) (worth_of_same claim.by claim.value (along_slope player profile (mean (strategy_of profile i))) (neg_ℤ right) own_den claim.is_value.same (claim_worth claim.by (neg_ℤ right) claim.value claim.is_value.lowest.ratio.positive claim.claim.rights))
+        worth-wider claim.by x.den (along_slope player profile (mean (strategy_of profile i))) (neg_ℤ right) (worth_of_same claim.by claim.value (along_slope player profile (mean (strategy_of profile i))) (neg_ℤ right) own_den claim.is_value.same (claim_worth claim.by (neg_ℤ right) claim.value claim.is_value.positive claim.claim.rights))
 
     turned : sum_to (length player.vars) (λ v. neg_ℤ (slice_index_or left v (pos 0)) *ℤ num_of x v) ≡ negsuc 0 *ℤ sum_to (length player.vars) (λ v. slice_index_or left v (pos 0) *ℤ num_of x v)
     turned =

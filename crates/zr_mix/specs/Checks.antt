@@ -9,7 +9,7 @@ use Rattle.zr_game.specs.Leaves.{Bound, BoundHolds}
 use Rattle.zr_game.specs.Means.{along_slope, mean, slope}
 use Rattle.zr_game.specs.Profiles.{Profile, strategy_of}
 use Rattle.zr_mix.specs.Claims.{IsClaim}
-use Rattle.zr_mix.specs.Values.{AreReduced, IsReduced}
+use Rattle.zr_mix.specs.Values.{AreInLowestTerms, IsInLowestTerms}
 
 -- the row `left * x <= right`
 abbrev pub claim_row : List ℤ → ℤ → Bound
@@ -20,8 +20,8 @@ pub record IsClaimOf (player : PlayerOf) (i : ℕ) (profile : Profile) (left : L
   pub slopes : List Fraction
   pub value : Fraction
   pub by : ℤ
-  pub are_slopes : AreReduced slopes (length player.vars) (slope player profile)
-  pub is_value : IsReduced value (along_slope player profile (mean (strategy_of profile i)))
+  pub are_slopes : AreInLowestTerms slopes (length player.vars) (slope player profile)
+  pub is_value : IsInLowestTerms value (along_slope player profile (mean (strategy_of profile i)))
   pub claim : IsClaim slopes value by left right
 
 -- the claim holds at each feasible point

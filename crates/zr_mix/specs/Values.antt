@@ -1,5 +1,6 @@
 -- Fractions in lowest terms, and the values that they have.
-use Rattle.std.specs.Prelude.{◌≡◌, ℕ, ◌<◌, ◌==◌, pos, List, length, slice_index_or}
+use Rattle.std.specs.Prelude.{◌≡◌, ℕ, ◌<◌, ◌==◌, pos, ◌<ℤ◌, unsigned_abs, List, length, slice_index_or}
+use Rattle.std.specs.Int.{IsGcd}
 use Rattle.std.specs.List.{filter}
 use Rattle.zr_base.specs.Fractions.{Fraction, IsSame, plus, sum_over, times, whole}
 use Rattle.zr_base.specs.Terms.{coef_at}
@@ -16,6 +17,12 @@ pub record IsReduced (f value : Fraction) : Type 0 where
   pub lowest : IsLowest f
   pub same : IsSame f value
 
+-- the same where f may have numbers of any size
+pub record IsInLowestTerms (f value : Fraction) : Type 0 where
+  pub positive : (pos 0) <ℤ f.den
+  pub coprime : IsGcd (unsigned_abs f.num) (unsigned_abs f.den) 1
+  pub same : IsSame f value
+
 -- item v of a list of fractions
 abbrev pub item_of : List Fraction → ℕ → Fraction
 item_of list v = slice_index_or list v (whole (pos 0))
@@ -24,6 +31,11 @@ item_of list v = slice_index_or list v (whole (pos 0))
 pub record AreReduced (list : List Fraction) (n : ℕ) (f : ℕ → Fraction) : Type 0 where
   pub len : length list ≡ n
   pub each : (v : ℕ) → v < n → IsReduced (item_of list v) (f v)
+
+-- the same where the fractions may have numbers of any size
+pub record AreInLowestTerms (list : List Fraction) (n : ℕ) (f : ℕ → Fraction) : Type 0 where
+  pub len : length list ≡ n
+  pub each : (v : ℕ) → v < n → IsInLowestTerms (item_of list v) (f v)
 
 -- the list has the means of the profile, those of all players one after another
 abbrev pub AreMeans : GameOf → Profile → List Fraction → Type 0

@@ -19,6 +19,7 @@ pub use laws::{law_of_nodes, law_of_passing, law_of_right_trees};
 pub use node::Node;
 pub use scratch::Scratch;
 pub use tree::Tree;
+pub use zr_base::NoMemory;
 
 #[cfg(test)]
 mod tests;

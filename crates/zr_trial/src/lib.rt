@@ -17,7 +17,8 @@ ghost use Rattle.zr_trial.specs.First.{IsFirstEquilibrium};
 
 pub use reach::is_within_reach;
 use std::alloc::Global;
-use zr_base::{NoMemory, Point};
+pub use zr_base::NoMemory;
+use zr_base::Point;
 use zr_game::Game;
 
 /// The first pure equilibrium, one point per player, or `None` where no pure profile is one.

@@ -1,11 +1,10 @@
-use Rattle.std.proofs.Common.{◌≡◌, sym, ap, ◌∙◌, subst, ℤ, pos, Option, None, List, get_or, map}
+use Rattle.std.proofs.Common.{◌≡◌, ap, ◌∙◌, subst, ℤ, pos, Option, None, List, get_or, map}
 use Rattle.zr_game.specs.declared.player.Var.{Var}
-use Rattle.zr_game.specs.declared.leaf.Leaf.{Leaf}
 use Rattle.zr_game.specs.declared.leaf.Side.{Side}
 use Rattle.zr_game.specs.declared.leaf.Side.TheVariants.{Undecided}
 use Rattle.zr_game.specs.Players.{PlayerOf, player_of}
 use Rattle.zr_game.specs.Games.{game_of}
-use Rattle.zr_game.specs.Leaves.{leaf_of, root_leaf, up_of}
+use Rattle.zr_game.specs.Leaves.{leaf_of, root_leaf}
 use Rattle.zr_game.proofs.Items.{found, one, read_below}
 use Rattle.zr_game.proofs.LeafLaws.{all_same, same_leaf, ups_are}
 use Rattle.zr_game.proofs.leaf.Leaf.root.Goals as goal

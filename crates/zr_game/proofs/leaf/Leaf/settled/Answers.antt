@@ -1,7 +1,6 @@
-use Rattle.std.proofs.Common.{◌≡◌, ◌↔◌, ℕ, ◌<◌, sym, ap, subst, ◌∙◌, IsTrue, length, ◌&&◌}
+use Rattle.std.proofs.Common.{◌↔◌, sym, ap, subst, ◌∙◌, IsTrue, length, ◌&&◌}
 use Rattle.std.proofs.lemmas.List.{length-map}
-use Rattle.zr_game.specs.declared.leaf.Side.TheVariants.{Undecided}
-use Rattle.zr_game.specs.Players.{PlayerOf, pair_of, player_of, var_of}
+use Rattle.zr_game.specs.Players.{PlayerOf, player_of, var_of}
 use Rattle.zr_game.specs.Forms.{IsPlayer}
 use Rattle.zr_game.specs.Games.{game_of}
 use Rattle.zr_game.specs.Leaves.{IsLeafOf, IsSettled, leaf_of}
