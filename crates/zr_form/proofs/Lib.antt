@@ -1,0 +1,12 @@
+pub mod Forms
+pub mod Numbers
+pub mod Lines
+pub mod Fields
+pub mod Words
+pub mod Steps
+pub mod Atomic
+pub mod Parsing
+pub mod Walking
+pub mod Composing
+pub mod AnySize
+pub mod Fieldwise
