@@ -1,0 +1,74 @@
+-- Costs and claims that were made in whole.
+use Rattle.std.proofs.Common.{◌≡◌, ℕ, sym, ap, subst, ◌∙◌, ℤ, Result, Ok, IsErr, List, length, All}
+use Rattle.zr_base.specs.declared.step.Wide.{Wide}
+use Rattle.zr_base.specs.Steps.{◌>>=◌}
+use Rattle.zr_base.specs.Fractions.{Fraction}
+use Rattle.zr_base.proofs.CrossLaws.{then_ok}
+use Rattle.zr_game.specs.Forms.{IsGame, IsPlayer}
+use Rattle.zr_game.specs.Means.{along_slope, mean, slope}
+use Rattle.zr_game.specs.Players.{GameOf, PlayerOf}
+use Rattle.zr_game.specs.Profiles.{strategy_of, total}
+use Rattle.zr_mix.specs.Checks.{IsClaimOf}
+use Rattle.zr_mix.specs.Steps.{claim_steps, made_from, slope_steps, value_steps}
+use Rattle.zr_mix.specs.Values.{IsReduced}
+use Rattle.zr_cert.specs.Certs.{MixtureOf, profile_with}
+use Rattle.zr_cert.specs.Forms.{IsMixtureForm}
+use Rattle.zr_check.specs.Bounds.{IsCostMade, IsWideCost, cost_steps, own_means}
+use Rattle.zr_check.proofs.MadeSums.{dens_if, value_exact}
+use Rattle.zr_check.proofs.MadeLists.{own_are, slope_reduced}
+use Rattle.zr_check.proofs.MadeClaims.{all_in_lowest, claim_made, in_lowest, ok_pair}
+
+ok_same : (a b : List Fraction) → ◌≡◌ {A = Result (List Fraction) Wide} (Ok a) (Ok b) → a ≡ b
+ok_same a b e = cc
+
+-- the sums of a cost line have one result
+pub one_made : (game : GameOf) (mixtures : List MixtureOf) (i : ℕ) (player : PlayerOf) (value value' : Fraction) (left left' : List ℤ) (right right' : ℤ) → IsCostMade game mixtures i player value left right → IsCostMade game mixtures i player value' left' right' → (value ≡ value') × (left ≡ left') × (right ≡ right')
+one_made game mixtures i player value value' left left' right right' p q =
+    let means : p.means ≡ q.means = ok_same p.means q.means (sym p.are_means ∙ q.are_means) in
+    let made = sym p.made ∙ ap (cost_steps game player i) means ∙ q.made in
+    let parts = ok_pair value value' (left, right) (left', right') made in
+    (parts.0, ap (λ (x : List ℤ × ℤ). x.0) parts.1, ap (λ (x : List ℤ × ℤ). x.1) parts.1)
+
+-- a result and a step that is too wide exclude each other
+pub made_or_wide : (game : GameOf) (mixtures : List MixtureOf) (i : ℕ) (player : PlayerOf) (value : Fraction) (left : List ℤ) (right : ℤ) → IsCostMade game mixtures i player value left right → IsWideCost game mixtures i player → ⊥
+made_or_wide game mixtures i player value left right p w =
+    let means : w.0 ≡ p.means = ok_same w.0 p.means (sym w.1 ∙ p.are_means) in
+    let err = subst (λ (r : Result (Fraction × (List ℤ × ℤ)) Wide). IsErr r) (ap (cost_steps game player i) means ∙ p.made) w.2 in
+    absurd cc
+
+-- the slope, and what was made of it
+record CostParts (slopes_made : Result (List Fraction) Wide) (own : List Fraction) (value : Fraction) (left : List ℤ) (right : ℤ) : Type 0 where
+  pub slopes : List Fraction
+  pub are_slopes : slopes_made ≡ Ok slopes
+  pub is_value : value_steps slopes own ≡ Ok value
+  pub claim : claim_steps slopes value ≡ Ok (left, right)
+
+abbrev with_claim : List Fraction → Fraction → Result (Fraction × (List ℤ × ℤ)) Wide
+with_claim slopes value = claim_steps slopes value >>= λ claim. Ok (value, claim)
+
+cost_parts : (slopes_made : Result (List Fraction) Wide) (own : List Fraction) (value : Fraction) (left : List ℤ) (right : ℤ) → (slopes_made >>= λ slopes. value_steps slopes own >>= with_claim slopes) ≡ Ok (value, (left, right)) → CostParts slopes_made own value left right
+cost_parts slopes_made own value left right e =
+    let s = then_ok slopes_made (λ slopes. value_steps slopes own >>= with_claim slopes) (value, (left, right)) e in
+    let t = then_ok (value_steps s.0 own) (with_claim s.0) (value, (left, right)) s.2 in
+    let u = then_ok (claim_steps s.0 t.0) (λ claim. Ok (t.0, claim)) (value, (left, right)) t.2 in
+    let parts = ok_pair t.0 value u.0 (left, right) u.2 in
+    let claim = subst (λ (c : List ℤ × ℤ). claim_steps s.0 t.0 ≡ Ok c) parts.1 u.1 in
+    record {
+      slopes = s.0;
+      are_slopes = s.1;
+      is_value = subst (λ (v : Fraction). value_steps s.0 own ≡ Ok v) parts.0 t.1;
+      claim = subst (λ (v : Fraction). claim_steps s.0 v ≡ Ok (left, right)) parts.0 claim;
+    }
+
+module _ (game : GameOf) (form : IsGame game) (mixtures : List MixtureOf) (len : length mixtures ≡ length game) (forms : All IsMixtureForm mixtures) (totals : All (λ m. m.total ≡ total m.parts) mixtures) (i : ℕ) (player : PlayerOf) (is : IsPlayer game i player) where
+  -- what was made is the claim, and the value along the slope
+  pub claim_of_cost : (value : Fraction) (left : List ℤ) (right : ℤ) → IsCostMade game mixtures i player value left right → IsClaimOf player i (profile_with mixtures) left right × IsReduced value (along_slope player (profile_with mixtures) (mean (strategy_of (profile_with mixtures) i)))
+  claim_of_cost value left right p =
+      let profile = profile_with mixtures in
+      let n = length player.vars in
+      let own = own_means game player i p.means in
+      let parts = cost_parts (made_from (slope_steps game player p.means) 0 n) own value left right p.made in
+      let slopes = slope_reduced game mixtures len forms totals p.means p.are_means form i player is parts.slopes parts.are_slopes in
+      let along = value_exact n parts.slopes own (slope player profile) (mean (strategy_of profile i)) slopes (own_are game mixtures len forms totals p.means p.are_means i player is) value parts.is_value in
+      let claim = claim_made parts.slopes value left right (dens_if n parts.slopes (slope player profile) slopes) along.lowest.ratio.positive parts.claim in
+      (record { slopes = parts.slopes; value = value; by = claim.0; are_slopes = all_in_lowest parts.slopes n (slope player profile) slopes; is_value = in_lowest value (along_slope player profile (mean (strategy_of profile i))) along; claim = claim.1 }, along)

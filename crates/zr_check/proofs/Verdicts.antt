@@ -1,0 +1,26 @@
+-- A certificate's verdict as the code matches it.
+use Rattle.std.proofs.Common.{◌≡◌, ◌≤◌, ℕ, inr, sym, subst, List, length, map, All}
+use Rattle.zr_game.specs.declared.kind.Kind.{Kind}
+use Rattle.zr_game.specs.Players.{GameOf}
+use Rattle.zr_cert.specs.declared.cert.Verdict.{Verdict}
+use Rattle.zr_game.proofs.Items.{All-of_map}
+use Rattle.zr_tree.specs.Nodes.{NodeOf}
+use Rattle.zr_cert.specs.declared.fault.CertFault.{CertFault}
+use Rattle.zr_cert.specs.Certs.{BoundOf, MixtureOf, ProfileVerdict, VerdictOf, cert_with, verdict_of}
+use Rattle.zr_check.specs.Rooms.{trees_of}
+use Rattle.zr_check.specs.Checks.{CertPasses, CertRefused, HeadPasses, ProfilePasses, VerdictPasses, VerdictRefused}
+
+module _ (game : GameOf) (kind : Kind) (players : ℕ) (count : players ≡ length game) (v : Verdict) where
+  pub head_passes : (verdict : VerdictOf) → verdict_of v ≡ verdict → ProfilePasses game kind verdict → HeadPasses game (cert_with kind players v)
+  head_passes verdict e passes = (count, subst (ProfilePasses game kind) (sym e) passes)
+
+  pub cert_passes : (verdict : VerdictOf) → verdict_of v ≡ verdict → VerdictPasses game kind verdict → CertPasses game (cert_with kind players v)
+  cert_passes verdict e passes = (count, subst (VerdictPasses game kind) (sym e) passes)
+
+  pub cert_refused : (verdict : VerdictOf) → verdict_of v ≡ verdict → (fault : CertFault) → VerdictRefused game kind verdict fault → CertRefused game (cert_with kind players v) fault
+  cert_refused verdict e fault refused = inr (count, subst (λ (w : VerdictOf). VerdictRefused game kind w fault) (sym e) refused)
+
+-- the places are enough for each bound's tree
+pub trees_within : (v : Verdict) (bounds : List BoundOf) (mixtures : List MixtureOf) → verdict_of v ≡ ProfileVerdict mixtures bounds → (n m : ℕ) → n ≡ m → All (λ (nodes : List NodeOf). length nodes ≤ n) (trees_of (verdict_of v)) → All (λ (b : BoundOf). length b.tree ≤ m) bounds
+trees_within v bounds mixtures e n m same all =
+    All-of_map (λ (b : BoundOf). b.tree) (λ (nodes : List NodeOf). length nodes ≤ m) bounds (subst (λ (k : ℕ). All (λ (nodes : List NodeOf). length nodes ≤ k) (map (λ (b : BoundOf). b.tree) bounds)) same (subst (λ (w : VerdictOf). All (λ (nodes : List NodeOf). length nodes ≤ n) (trees_of w)) e all))

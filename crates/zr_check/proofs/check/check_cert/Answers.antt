@@ -1,0 +1,62 @@
+use Rattle.std.proofs.Common.{arith, ◌≡◌, ◌∙◌, sym, ap, ap₂, length, map, List}
+use Rattle.std.proofs.lemmas.List.{length-map}
+use Rattle.std.proofs.lemmas.Result.{MatchResult-weaker, on_ok_weaker}
+use Rattle.zr_game.specs.Games.{game_of}
+use Rattle.zr_game.specs.Players.{player_of}
+use Rattle.zr_mix.specs.declared.mixture.Strategy.{Strategy}
+use Rattle.zr_cert.specs.declared.cert.Bound.{Bound}
+use Rattle.zr_cert.specs.Certs.{EmptyVerdict, ProfileVerdict, bound_of, mixture_of, nodes_of, verdict_of}
+use Rattle.zr_cert.specs.Listed.{cert_of}
+use Rattle.zr_check.specs.Rooms.{RoomOf}
+use Rattle.zr_check.proofs.Answers.{exact_if, true_if}
+use Rattle.zr_check.proofs.Verdicts.{cert_passes, cert_refused, trees_within}
+use Rattle.zr_check.proofs.check.check_cert.Goals as goal
+use Rattle.zr_check.proofs.check.check_cert.Goals.{Else-cert-len}
+
+count : (c : Else-cert-len) → c.args.cert.now.players ≡ length (game_of c.args.game.now)
+count c =
+    let l = length-map c.args.game.now.players.items player_of in
+    omega (arith, l, c.if-cert-len.false, c.len.ensures, c.args.game.now.players.ok.0)
+
+of_slices : (xs ys : List Strategy) (bs cs : List Bound) → xs ≡ ys → bs ≡ cs → ProfileVerdict (map mixture_of ys) (map bound_of cs) ≡ ProfileVerdict (map mixture_of xs) (map bound_of bs)
+of_slices xs ys bs cs e f = ap₂ (λ (us : List Strategy) (vs : List Bound). ProfileVerdict (map mixture_of us) (map bound_of vs)) (sym e) (sym f)
+
+pub check_equilibrium-requires-clause-trees : goal.check_equilibrium-requires-clause-trees
+check_equilibrium-requires-clause-trees c =
+    trees_within c.args.cert.now.verdict (map bound_of c.deref-in-Profile.result.now) (map mixture_of c.deref.result.now) (ap verdict_of c.in-Profile.is ∙ of_slices c.deref.result.now _ c.deref-in-Profile.result.now _ c.deref.ensures.value c.deref-in-Profile.ensures.value) _ _ (sym (ap (λ (r : RoomOf). r.scratch.nodes) c.room.view_is)) c.requires.trees
+
+pub returns-in-Profile-clause-ok : goal.returns-in-Profile-clause-ok
+returns-in-Profile-clause-ok c =
+    let cert = c.args.cert.now in
+    on_ok_weaker c.check_equilibrium.result (cert_passes (game_of c.args.game.now) cert.kind cert.players (count ((goal.at.returns-in-Profile-clause-ok c).Else-cert-len)) cert.verdict (ProfileVerdict (map mixture_of c.deref.result.now) (map bound_of c.deref-in-Profile.result.now)) (ap verdict_of c.in-Profile.is ∙ of_slices c.deref.result.now _ c.deref-in-Profile.result.now _ c.deref.ensures.value c.deref-in-Profile.ensures.value)) c.check_equilibrium.ensures.ok
+
+pub returns-in-Profile-clause-err : goal.returns-in-Profile-clause-err
+returns-in-Profile-clause-err c =
+    let cert = c.args.cert.now in
+    MatchResult-weaker c.check_equilibrium.result c.check_equilibrium.ensures.err (λ u h. h) (cert_refused (game_of c.args.game.now) cert.kind cert.players (count ((goal.at.returns-in-Profile-clause-err c).Else-cert-len)) cert.verdict (ProfileVerdict (map mixture_of c.deref.result.now) (map bound_of c.deref-in-Profile.result.now)) (ap verdict_of c.in-Profile.is ∙ of_slices c.deref.result.now _ c.deref-in-Profile.result.now _ c.deref.ensures.value c.deref-in-Profile.ensures.value))
+
+pub returns-in-NoneEmpty-clause-ok : goal.returns-in-NoneEmpty-clause-ok
+returns-in-NoneEmpty-clause-ok c =
+    let cert = c.args.cert.now in
+    on_ok_weaker c.check_empty.result (cert_passes (game_of c.args.game.now) cert.kind cert.players (count ((goal.at.returns-in-NoneEmpty-clause-ok c).Else-cert-len)) cert.verdict (EmptyVerdict c.in-NoneEmpty.player (nodes_of c.in-NoneEmpty.tree)) (ap verdict_of c.in-NoneEmpty.is)) (c.check_empty.ensures.ok cert.kind)
+
+pub returns-in-NoneEmpty-clause-err : goal.returns-in-NoneEmpty-clause-err
+returns-in-NoneEmpty-clause-err c =
+    let cert = c.args.cert.now in
+    MatchResult-weaker c.check_empty.result (c.check_empty.ensures.err cert.kind) (λ u h. h) (cert_refused (game_of c.args.game.now) cert.kind cert.players (count ((goal.at.returns-in-NoneEmpty-clause-err c).Else-cert-len)) cert.verdict (EmptyVerdict c.in-NoneEmpty.player (nodes_of c.in-NoneEmpty.tree)) (ap verdict_of c.in-NoneEmpty.is))
+
+pub returns-in-Profile-clause-exact : goal.returns-in-Profile-clause-exact
+returns-in-Profile-clause-exact c =
+    exact_if (game_of c.args.game.now) c.args.game.now.sound (cert_of c.args.cert.now) c.args.cert.now.sound c.check_equilibrium.result (returns-in-Profile-clause-ok c) (returns-in-Profile-clause-err c)
+
+pub returns-in-Profile-clause-sound : goal.returns-in-Profile-clause-sound
+returns-in-Profile-clause-sound c =
+    true_if (game_of c.args.game.now) c.args.game.now.sound (cert_of c.args.cert.now) c.args.cert.now.sound c.check_equilibrium.result (returns-in-Profile-clause-ok c)
+
+pub returns-in-NoneEmpty-clause-exact : goal.returns-in-NoneEmpty-clause-exact
+returns-in-NoneEmpty-clause-exact c =
+    exact_if (game_of c.args.game.now) c.args.game.now.sound (cert_of c.args.cert.now) c.args.cert.now.sound c.check_empty.result (returns-in-NoneEmpty-clause-ok c) (returns-in-NoneEmpty-clause-err c)
+
+pub returns-in-NoneEmpty-clause-sound : goal.returns-in-NoneEmpty-clause-sound
+returns-in-NoneEmpty-clause-sound c =
+    true_if (game_of c.args.game.now) c.args.game.now.sound (cert_of c.args.cert.now) c.args.cert.now.sound c.check_empty.result (returns-in-NoneEmpty-clause-ok c)

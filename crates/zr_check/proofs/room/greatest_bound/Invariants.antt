@@ -1,0 +1,5 @@
+use Rattle.zr_check.proofs.Greatest.{AreWithin}
+use Rattle.zr_check.proofs.room.greatest_bound.Given as goal
+
+abbrev pub invariant-loop-bound : goal.invariant-loop-bound
+invariant-loop-bound l = AreWithin l.bound-index l.bounds l.most

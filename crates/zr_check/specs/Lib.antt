@@ -1,0 +1,10 @@
+pub mod Firsts
+pub mod Right
+pub mod Truth
+pub mod Parts
+pub mod Bounds
+pub mod Checks
+pub mod WideSteps
+pub mod Rooms
+pub mod PartSums
+pub mod Benches

@@ -1,0 +1,30 @@
+-- The places of a room for checks.
+use Rattle.std.specs.Prelude.{ℕ, ◌≤◌, List, [], ◌∷◌, length, map}
+use Rattle.std.specs.List.{All}
+use Rattle.zr_game.specs.Players.{GameOf}
+use Rattle.zr_tree.specs.Nodes.{NodeOf}
+use Rattle.zr_tree.specs.Scratches.{Places, most_pairs, most_vars}
+use Rattle.zr_mix.specs.Steps.{var_total}
+use Rattle.zr_cert.specs.Certs.{CertOf, EmptyVerdict, ProfileVerdict, VerdictOf}
+
+-- a scratch for trees, and places for the means of all players, a slope and a claim
+pub record RoomOf : Type 0 where
+  pub scratch : Places
+  pub means : ℕ
+  pub slopes : ℕ
+  pub claims : ℕ
+
+-- the trees of a verdict
+abbrev pub trees_of : VerdictOf → List (List NodeOf)
+trees_of (ProfileVerdict mixtures bounds) = map (λ b. b.tree) bounds
+trees_of (EmptyVerdict i nodes) = nodes ∷ []
+
+-- the places are enough for the certificate's check
+pub record HasRoom (game : GameOf) (c : CertOf) (room : RoomOf) : Type 0 where
+  pub trees : All (λ nodes. length nodes ≤ room.scratch.nodes) (trees_of c.verdict)
+  pub columns : most_vars game ≤ room.scratch.columns
+  pub vars : most_vars game ≤ room.scratch.vars
+  pub pairs : most_pairs game ≤ room.scratch.pairs
+  pub means : var_total game ≤ room.means
+  pub slopes : most_vars game ≤ room.slopes
+  pub claims : most_vars game ≤ room.claims
