@@ -1,0 +1,5 @@
+pub mod Spelling
+pub mod Fits
+pub mod Reader
+pub mod Faults
+pub mod Code

@@ -1,0 +1,166 @@
+//! The first lines of a certificate, and its last one.
+
+ghost use Rattle.std.specs.Prelude.{◌≡◌, ◌<◌, option_map, option_copied, true, false, IfSome};
+ghost use Rattle.zr_form.specs.Code.{left_of, Takes};
+ghost use Rattle.zr_form.specs.Fields.{natural_read};
+ghost use Rattle.zr_form.specs.Lines.{by_fields, fields_of, lines_of};
+ghost use Rattle.zr_form.specs.Reading.{one_read};
+ghost use Rattle.zr_form.specs.Stops.{Gives, ReadsLine};
+ghost use Rattle.zr_text.specs.Code.{GivesThis, IsThis, verdict_line_of};
+ghost use Rattle.zr_text.specs.Fits.{is_player_count};
+ghost use Rattle.zr_text.specs.Reader.{verdict_line_at, verdict_line_word, kind_at, kind_named, word_at};
+
+use crate::field::{INDEX_LIMIT, ended};
+use crate::loose::{is_kind, is_verdict_line};
+use zr_form::{LineFault, ReadError, next_field, next_line, small, word};
+use zr_game::Kind;
+
+/// What the verdict's line says.
+pub(crate) enum VerdictLine {
+    /// A profile follows.
+    Profile,
+    /// The player has no feasible point.
+    Empty { player: u32 },
+}
+
+/// The kind, and what follows its name.
+pub(crate) fn kind_name(left: Option<&[u8]>) -> Option<(Kind, Option<&[u8]>)>
+    ensures { Takes (λ k. k) left.entry result (one_read kind_named (left_of (option_copied left.entry))) }
+{
+    let (field, rest) = next_field(left?);
+    if field == b"pure".as_slice() {
+        return Some((Kind::Pure, rest));
+    }
+    if field == b"mixed".as_slice() {
+        return Some((Kind::Mixed, rest));
+    }
+    None
+}
+
+/// A number of players, and what follows it.
+fn player_count(left: Option<&[u8]>) -> Option<(u64, Option<&[u8]>)>
+    ensures within { IfSome result (λ x. x.0 < 17) }
+    ensures reads { Takes (λ n. n) left.entry result (natural_read (is_player_count true) (left_of (option_copied left.entry))) }
+{
+    let (n, rest) = small(left, 17)?;
+    if n < 1 {
+        return None;
+    }
+    Some((n, rest))
+}
+
+/// The kind and the number of players, within the upper bounds.
+#[tactic(auto, unfolding(crate::specs::Reader::kind_at))]
+fn kind(line: &[u8]) -> Option<(Kind, u32)>
+    ensures { option_map (λ h. (h.0, h.1)) result ≡ kind_at true (fields_of line.now) }
+{
+    let rest = word(Some(line), b"kind")?;
+    let (kind, rest) = kind_name(rest)?;
+    let (players, rest) = player_count(rest)?;
+    ended(rest)?;
+    Some((kind, players as u32))
+}
+
+/// The kind and the number of players.
+fn kind_line(line: &[u8]) -> Result<(Kind, u32), LineFault>
+    ensures { ReadsLine (λ h. (h.0, h.1)) result (kind_at true (fields_of line.now)) (kind_at false (fields_of line.now)) }
+{
+    match kind(line) {
+        Some(head) => Ok(head),
+        None => Err(LineFault::of_line(is_kind(line))),
+    }
+}
+
+/// The kind, the number of players, and what follows their line.
+pub(crate) fn take_kind(bytes: &[u8]) -> Result<((Kind, u32), &[u8]), ReadError>
+    ensures { Gives (λ h. (h.0, h.1)) result (one_read (by_fields (kind_at true)) (lines_of bytes.now)) (one_read (by_fields (kind_at false)) (lines_of bytes.now)) }
+{
+    let Some((line, rest)) = next_line(bytes) else {
+        return Err(ReadError::Form(bytes.len()));
+    };
+    match kind_line(line) {
+        Ok(head) => Ok((head, rest)),
+        Err(fault) => Err(fault.at(bytes.len())),
+    }
+}
+
+/// Whether it says that a profile follows, and what follows that word.
+pub(crate) fn verdict_line_name(left: Option<&[u8]>) -> Option<(bool, Option<&[u8]>)>
+    ensures { Takes (λ c. c) left.entry result (one_read verdict_line_word (left_of (option_copied left.entry))) }
+{
+    let (field, rest) = next_field(left?);
+    if field == b"profile".as_slice() {
+        return Some((true, rest));
+    }
+    if field == b"none".as_slice() {
+        return Some((false, rest));
+    }
+    None
+}
+
+/// What the line of the verdict says, within the upper bounds.
+#[tactic(auto, unfolding(crate::specs::Reader::verdict_line_at, crate::specs::Reader::verdict_line_rest))]
+fn stated(line: &[u8]) -> Option<VerdictLine>
+    ensures { option_map verdict_line_of result ≡ verdict_line_at true (fields_of line.now) }
+{
+    let rest = word(Some(line), b"verdict")?;
+    let (is_profile, rest) = verdict_line_name(rest)?;
+    if is_profile {
+        ended(rest)?;
+        return Some(VerdictLine::Profile);
+    }
+    let rest = word(rest, b"empty")?;
+    let (player, rest) = small(rest, INDEX_LIMIT)?;
+    ended(rest)?;
+    Some(VerdictLine::Empty {
+        player: player as u32,
+    })
+}
+
+/// What the line of the verdict says.
+fn verdict_line(line: &[u8]) -> Result<VerdictLine, LineFault>
+    ensures { ReadsLine verdict_line_of result (verdict_line_at true (fields_of line.now)) (verdict_line_at false (fields_of line.now)) }
+{
+    match stated(line) {
+        Some(said) => Ok(said),
+        None => Err(LineFault::of_line(is_verdict_line(line))),
+    }
+}
+
+/// What the line of the verdict says, and what follows it.
+pub(crate) fn take_verdict_line(bytes: &[u8]) -> Result<(VerdictLine, &[u8]), ReadError>
+    ensures { Gives verdict_line_of result (one_read (by_fields (verdict_line_at true)) (lines_of bytes.now)) (one_read (by_fields (verdict_line_at false)) (lines_of bytes.now)) }
+{
+    let Some((line, rest)) = next_line(bytes) else {
+        return Err(ReadError::Form(bytes.len()));
+    };
+    match verdict_line(line) {
+        Ok(said) => Ok((said, rest)),
+        Err(fault) => Err(fault.at(bytes.len())),
+    }
+}
+
+/// Whether the line is the word.
+#[tactic(auto, unfolding(crate::specs::Reader::word_at))]
+fn is_word(line: &[u8], name: &[u8]) -> bool
+    ensures { IsThis name.now result (word_at name.now (fields_of line.now)) }
+{
+    let Some(rest) = word(Some(line), name) else {
+        return false;
+    };
+    ended(rest).is_some()
+}
+
+/// What follows the line of this word.
+pub(crate) fn take_word<'a>(bytes: &'a [u8], name: &[u8]) -> Result<&'a [u8], ReadError>
+    ensures { GivesThis name.now result (one_read (by_fields (word_at name.now)) (lines_of bytes.now)) }
+{
+    let Some((line, rest)) = next_line(bytes) else {
+        return Err(ReadError::Form(bytes.len()));
+    };
+    if is_word(line, name) {
+        Ok(rest)
+    } else {
+        Err(ReadError::Form(bytes.len()))
+    }
+}
