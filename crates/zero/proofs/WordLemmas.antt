@@ -4,7 +4,7 @@ use Rattle.std.specs.Option.{option_map}
 use Rattle.std.specs.Str.{bytes_eq}
 use Rattle.std.proofs.lemmas.Option.{slice_get-map, slice_get_read, slice_get_past, same_Some}
 use Rattle.std.proofs.lemmas.Slice.Eq.{bytes_eq-Decides}
-use Rattle.zero.specs.Commands.{Bytes, Words, IsOtherAction}
+use Rattle.zero.specs.Commands.{Bytes, Words, IsCheck, IsOtherAction}
 
 -- whether the word at a place is this text
 pub word_at : {A : Type 0} (f : A → Bytes) (ws : List A) (i : ℕ) (w : A) (s t : Bytes) (r : Bool) → i < length ws → w ≡ get_or ws i w → s ≡ f w → r ≡ bytes_eq s t → IsTrue r ↔ (slice_get (map f ws) i ≡ Some t)
@@ -53,11 +53,26 @@ four_from (a ∷ b ∷ c ∷ []) kind h = absurd (omega (arith, h.len))
 four_from (a ∷ b ∷ c ∷ d ∷ []) kind h = (b, cc (h.action, h.option, h.last))
 four_from (a ∷ b ∷ c ∷ d ∷ e ∷ ws) kind h = absurd (omega (arith, h.len))
 
+-- the places of `check GAME CERT`
+pub record HasThree (ws : Words) : Type 0 where
+  pub len : length ws ≡ 3
+  pub action : slice_get ws 0 ≡ Some (codes "check")
+
+pub three_places : (ws : Words) (game cert : Bytes) → IsCheck ws game cert → HasThree ws
+three_places ws game cert e = record { len = ap length e; action = ap (λ v. slice_get v 0) e }
+
+pub three_from : (ws : Words) → HasThree ws → (game : Bytes) × (cert : Bytes) × IsCheck ws game cert
+three_from [] h = absurd (omega (arith, h.len))
+three_from (a ∷ []) h = absurd (omega (arith, h.len))
+three_from (a ∷ b ∷ []) h = absurd (omega (arith, h.len))
+three_from (a ∷ b ∷ c ∷ []) h = (b, c, cc (h.action))
+three_from (a ∷ b ∷ c ∷ d ∷ ws) h = absurd (omega (arith, h.len))
+
 -- ---- the first word
 
 -- the other actions by the first word
 abbrev pub StartsOther : Words → Type 0
-StartsOther ws = (slice_get ws 0 ≡ Some (codes "play")) ⊎ (slice_get ws 0 ≡ Some (codes "check")) ⊎ (slice_get ws 0 ≡ Some (codes "best")) ⊎ (slice_get ws 0 ≡ Some (codes "gen"))
+StartsOther ws = (slice_get ws 0 ≡ Some (codes "play")) ⊎ (slice_get ws 0 ≡ Some (codes "best")) ⊎ (slice_get ws 0 ≡ Some (codes "gen"))
 
 pub starts_other : (ws : Words) → IsOtherAction ws → StartsOther ws
 starts_other ws h = grind (arith, h.1)

@@ -1,12 +1,14 @@
 -- What was written by one call after another, each of which may have failed.
-use Rattle.std.proofs.Common.{◌≡◌, ◌++◌, length, Option, Result, Ok, Err, OnOk, OnErr, ◌∷◌, [], codes, refl, sym, ap, ◌∙◌, subst, append_assoc, arith}
+use Rattle.std.proofs.Common.{◌≡◌, ℕ, ◌++◌, length, Option, Result, Ok, Err, OnOk, OnErr, ◌∷◌, [], codes, refl, sym, ap, ◌∙◌, subst, append_assoc, arith}
 use Rattle.std.proofs.lemmas.List.{take_all, take-append-le, length-append}
+use Rattle.zr_form.specs.Numbers.{decimal}
 use Rattle.zr_io.specs.Contents.{Bytes}
+use Rattle.zero.specs.declared.refusal.CertFlaw.{CertFlaw}
 use Rattle.zr_io.specs.Written.{Appends, AppendsPrefix}
 use Rattle.zr_read.specs.Faults.{fault_name}
 use Rattle.zr_read.specs.declared.fault.GameFault.{GameFault}
 use Rattle.zr_read.specs.declared.fault.GameFault.TheVariants.{NotJson, Format, Missing, Kind, NotWhole, TooBig, BadName, Twice, UnknownName, OwnCross, Count}
-use Rattle.zero.specs.Answers.{message, fault_line, fault_text}
+use Rattle.zero.specs.Messages.{message, fault_line, fault_text, flaw_line, flaw_name, long_cert_line, long_game_line}
 use Rattle.zr_io.proofs.AppendsLemmas.{appends_append, appends_prefix_append}
 
 -- a prefix of a piece is one of the piece and another
@@ -78,8 +80,29 @@ fault_pieces fault path name other e =
 
 -- ---- the line of a long content
 
-pub too_long : (name : Bytes) → (codes "zero: " ++ name) ++ (codes " is longer than 8388608 bytes" ++ 10 ∷ []) ≡ message (name ++ codes " is longer than 8388608 bytes")
-too_long name = joined (codes "zero: ") name (codes " is longer than 8388608 bytes") (10 ∷ [])
-  where
-    joined : (a n b e : Bytes) → (a ++ n) ++ (b ++ e) ≡ (a ++ (n ++ b)) ++ e
-    joined a n b e = simp append_assoc
+joined : (a n b e : Bytes) → (a ++ n) ++ (b ++ e) ≡ (a ++ (n ++ b)) ++ e
+joined a n b e = simp append_assoc
+
+pub long_game : (name : Bytes) → (codes "zero: " ++ name) ++ (codes " is longer than 8388608 bytes" ++ 10 ∷ []) ≡ long_game_line name
+long_game name = joined (codes "zero: ") name (codes " is longer than 8388608 bytes") (10 ∷ [])
+
+pub long_cert : (name : Bytes) → (codes "zero: " ++ name) ++ (codes " is longer than 67108864 bytes" ++ 10 ∷ []) ≡ long_cert_line name
+long_cert name = joined (codes "zero: ") name (codes " is longer than 67108864 bytes") (10 ∷ [])
+
+-- ---- the line of a refused certificate
+
+in_two : (a d c n e : Bytes) → (a ++ d) ++ ((c ++ n) ++ e) ≡ a ++ (((d ++ c) ++ n) ++ e)
+in_two a d c n e = simp append_assoc
+
+in_one : (a d c n e : Bytes) → a ++ (d ++ ((c ++ n) ++ e)) ≡ a ++ (((d ++ c) ++ n) ++ e)
+in_one a d c n e = simp append_assoc
+
+-- the line as what is written first and second, and then the last piece
+pub flaw_pieces : (number : ℕ) (flaw : CertFlaw) (name : Bytes) → name ≡ flaw_name flaw → (codes "zero: certificate: line " ++ decimal number) ++ ((codes ": " ++ name) ++ 10 ∷ []) ≡ flaw_line number flaw
+flaw_pieces number flaw name e =
+    ap (λ n. (codes "zero: certificate: line " ++ decimal number) ++ ((codes ": " ++ n) ++ 10 ∷ [])) e
+    ∙ in_two (codes "zero: certificate: line ") (decimal number) (codes ": ") (flaw_name flaw) (10 ∷ [])
+
+-- the line as what is written first, and all the rest
+pub flaw_start : (number : ℕ) (flaw : CertFlaw) → codes "zero: certificate: line " ++ (decimal number ++ ((codes ": " ++ flaw_name flaw) ++ 10 ∷ [])) ≡ flaw_line number flaw
+flaw_start number flaw = in_one (codes "zero: certificate: line ") (decimal number) (codes ": ") (flaw_name flaw) (10 ∷ [])

@@ -1,33 +1,31 @@
--- When the program ends with which status, and what it then has written.
-use Rattle.std.specs.Prelude.{◌≡◌, ℕ, ◌≤◌, List, ◌∷◌, ◌++◌, length, Option, Some, codes, ◌⊎◌}
+-- What an answer says, and why there is none.
+use Rattle.std.specs.Prelude.{◌≡◌, ℕ, ◌≤◌, List, ◌++◌, length, Option, Some, codes, ◌⊎◌}
 use Rattle.zr_base.specs.Points.{PointOf}
 use Rattle.zr_game.specs.Players.{GameOf}
 use Rattle.zr_game.specs.Equilibria.{HasNone}
-use Rattle.zr_game.specs.declared.kind.Kind.TheVariants.{Pure}
-use Rattle.zr_io.specs.Contents.{Bytes, Contents, HoldsMore}
+use Rattle.zr_game.specs.declared.kind.Kind.{Kind}
+use Rattle.zr_game.specs.declared.kind.Kind.TheVariants.{Pure, Mixed}
+use Rattle.zr_io.specs.Contents.{Bytes, Contents}
 use Rattle.zr_io.specs.Written.{AppendsPrefix}
 use Rattle.zr_read.specs.declared.fault.GameFault.{GameFault}
-use Rattle.zr_read.specs.declared.fault.GameFault.TheVariants.{NotJson}
 use Rattle.zr_read.specs.Texts.{StandsFor, HasFirstFault, IsUnbuilt}
-use Rattle.zr_read.specs.Faults.{fault_name}
 use Rattle.zr_trial.specs.Reach.{IsWithinReach}
 use Rattle.zr_trial.specs.First.{IsFirstEquilibrium, pure_profile}
-use Rattle.zero.specs.Commands.{Words, IsSolvePure}
+use Rattle.zr_cert.specs.declared.fault.CertFault.TheVariants as checks
+use Rattle.zr_cert.specs.Certs.{CertOf, EmptyVerdict, ProfileVerdict, VerdictOf}
+use Rattle.zr_check.specs.Right.{IsRightCert}
+use Rattle.zr_check.specs.Checks.{CertRefused}
+use Rattle.zr_check.specs.Truth.{IsTrueVerdict}
+use Rattle.zr_check.specs.WideSteps.{HasWideStep}
+use Rattle.zr_text.specs.declared.fault.TextError.TheVariants as texts
+use Rattle.zr_text.specs.Faults.{IsText, IsTextFault}
+use Rattle.zero.specs.Commands.{Words, IsCheck, IsGameName, IsSolvePure}
+use Rattle.zero.specs.Reads.{IsDueCert, IsRead, cert_limit, game_limit}
 use Rattle.zero.specs.ShortText.{line, none_text, profile_text}
+use Rattle.zero.specs.declared.refusal.CertFlaw.{CertFlaw}
+use Rattle.zero.specs.declared.refusal.CertFlaw.TheVariants.{Form, Number, Wrong, Wide}
 
--- the greatest length of a game text
-abbrev pub game_limit : ℕ
-game_limit = 8388608
-
--- where the shelf tells its contents, the name holds these bytes
-abbrev pub IsContent : Contents → Bytes → Bytes → Type 0
-IsContent contents name bytes = (get : Bytes → Option Bytes) → contents ≡ Some get → get name ≡ Some bytes
-
--- the words ask for a pure equilibrium of the game under this name, where these bytes were read
-pub record IsAsked (words : Words) (contents : Contents) (name bytes : Bytes) : Type 0 where
-  pub solve : IsSolvePure words name
-  pub content : IsContent contents name bytes
-  pub within : length bytes ≤ game_limit
+-- ---- solve
 
 -- the text of the game's first pure equilibrium, or that it has none
 abbrev pub IsShortAnswer : GameOf → Bytes → Type 0
@@ -42,12 +40,57 @@ pub record IsAnswered (bytes text : Bytes) : Type 0 where
   pub reach : IsWithinReach game
   pub answer : IsShortAnswer game text
 
--- a true answer to the words: the text answers the bytes read
-pub record IsAnswer (words : Words) (contents : Contents) (text : Bytes) : Type 0 where
+-- the words ask for a pure equilibrium of the game that was read
+pub record IsSolved (words : Words) (contents : Contents) (text : Bytes) : Type 0 where
   pub name : Bytes
   pub bytes : Bytes
-  pub asked : IsAsked words contents name bytes
+  pub solve : IsSolvePure words name
+  pub read : IsRead contents game_limit name bytes
   pub answered : IsAnswered bytes text
+
+-- ---- check
+
+abbrev pub kind_name : Kind → Bytes
+kind_name Pure = codes "pure"
+kind_name Mixed = codes "mixed"
+
+abbrev pub verdict_name : VerdictOf → Bytes
+verdict_name (ProfileVerdict mixtures bounds) = codes "profile"
+verdict_name (EmptyVerdict i nodes) = codes "none"
+
+abbrev pub accepted_text : CertOf → Bytes
+accepted_text c = line (codes "accepted " ++ kind_name c.kind ++ codes " " ++ verdict_name c.verdict)
+
+-- the bytes are the text of this certificate, which is right for the game, and no step of its check is too wide
+pub record IsRightText (game : GameOf) (bytes : Bytes) (cert : CertOf) : Type 0 where
+  pub is_text : IsText cert bytes
+  pub right : IsRightCert game cert
+  pub narrow : HasWideStep game cert → ⊥
+
+-- the bytes are of such a certificate, its verdict is true, and the text says so
+pub record IsAccepted (game : GameOf) (bytes text : Bytes) : Type 0 where
+  pub cert : CertOf
+  pub shown : IsRightText game bytes cert
+  pub truth : IsTrueVerdict game cert.kind cert.verdict
+  pub answer : text ≡ accepted_text cert
+
+-- the words ask for a check, the game text that was read stands for the game, and these bytes of a certificate were read
+pub record IsAskedCheck (words : Words) (contents : Contents) (game : GameOf) (bytes : Bytes) : Type 0 where
+  pub name : Bytes
+  pub due : IsDueCert words contents game name
+  pub read : IsRead contents cert_limit name bytes
+
+pub record IsChecked (words : Words) (contents : Contents) (text : Bytes) : Type 0 where
+  pub game : GameOf
+  pub bytes : Bytes
+  pub asked : IsAskedCheck words contents game bytes
+  pub accepted : IsAccepted game bytes text
+
+-- ---- answers and refusals
+
+-- a true answer to the words
+abbrev pub IsAnswer : Words → Contents → Bytes → Type 0
+IsAnswer words contents text = IsSolved words contents text ⊎ IsChecked words contents text
 
 -- a prefix of a true answer went to the end of what was written before
 pub record HasBegun (words : Words) (contents : Contents) (before after : Option Bytes) : Type 0 where
@@ -55,52 +98,59 @@ pub record HasBegun (words : Words) (contents : Contents) (before after : Option
   pub answer : IsAnswer words contents text
   pub written : AppendsPrefix before text after
 
--- the bytes read have this first fault
+-- the game text that was read has this first fault
 pub record IsFaultyGame (words : Words) (contents : Contents) (fault : GameFault) (path : Bytes) : Type 0 where
   pub name : Bytes
   pub bytes : Bytes
-  pub asked : IsAsked words contents name bytes
+  pub named : IsGameName words name
+  pub read : IsRead contents game_limit name bytes
   pub first : HasFirstFault bytes fault path
 
 -- the bytes have pairs or followers, or stand for a game that is out of reach
 abbrev pub IsUnanswerable : Bytes → Type 0
 IsUnanswerable bytes = IsUnbuilt bytes ⊎ ((game : GameOf) × StandsFor bytes game × (IsWithinReach game → ⊥))
 
--- the bytes read are so
+-- the game text that was read is so; for a check it has pairs or followers
 pub record IsUnbuiltGame (words : Words) (contents : Contents) : Type 0 where
   pub name : Bytes
   pub bytes : Bytes
-  pub asked : IsAsked words contents name bytes
-  pub unbuilt : IsUnanswerable bytes
+  pub read : IsRead contents game_limit name bytes
+  pub unbuilt : (IsSolvePure words name × IsUnanswerable bytes) ⊎ ((cert : Bytes) × IsCheck words name cert × IsUnbuilt bytes)
 
--- the words ask for the game under this name, and where the shelf tells its contents, the name holds more than a game text may have
-pub record IsLongGame (words : Words) (contents : Contents) (name : Bytes) : Type 0 where
-  pub solve : IsSolvePure words name
-  pub long : (get : Bytes → Option Bytes) → contents ≡ Some get → HoldsMore get name game_limit
+-- why a certificate text is refused at a line: it is out of form, a number's size alone is at fault, or the certificate
+-- that it is breaks a rule there or has a step that is too wide
+abbrev pub IsFlawed : GameOf → Bytes → ℕ → CertFlaw → Type 0
+IsFlawed game bytes number Form = IsTextFault bytes (texts.NotCert number)
+IsFlawed game bytes number Number = IsTextFault bytes (texts.NumberTooBig number)
+IsFlawed game bytes number Wrong = (c : CertOf) × IsText c bytes × CertRefused game c (checks.Bad number)
+IsFlawed game bytes number Wide = (c : CertOf) × IsText c bytes × CertRefused game c (checks.Wide number)
 
-abbrev pub IsLong : Words → Contents → Type 0
-IsLong words contents = (name : Bytes) × IsLongGame words contents name
+-- the certificate that was read is refused at this line
+pub record IsRefusedCert (words : Words) (contents : Contents) (number : ℕ) (flaw : CertFlaw) : Type 0 where
+  pub game : GameOf
+  pub bytes : Bytes
+  pub asked : IsAskedCheck words contents game bytes
+  pub flawed : IsFlawed game bytes number flaw
 
--- a line of the program
-abbrev pub message : Bytes → Bytes
-message text = line (codes "zero: " ++ text)
+-- ---- where the shelf tells its contents
 
--- the fault's name, and the path of the value; bad JSON has no path
-abbrev pub fault_text : GameFault → Bytes → Bytes
-fault_text NotJson path = fault_name NotJson
-fault_text fault path = fault_name fault ++ 32 ∷ path
+-- the words ask for a check of contents that are told and within their limits, and the game text stands for the game
+pub record IsToldCheck (words : Words) (contents : Contents) (game : GameOf) (bytes : Bytes) : Type 0 where
+  pub game_name : Bytes
+  pub cert_name : Bytes
+  pub check : IsCheck words game_name cert_name
+  pub get : Bytes → Option Bytes
+  pub told : contents ≡ Some get
+  pub game_bytes : Bytes
+  pub game_told : get game_name ≡ Some game_bytes
+  pub game_within : length game_bytes ≤ game_limit
+  pub stands : StandsFor game_bytes game
+  pub cert_told : get cert_name ≡ Some bytes
+  pub cert_within : length bytes ≤ cert_limit
 
--- the line of a fault at a path
-abbrev pub fault_line : GameFault → Bytes → Bytes
-fault_line fault path = message (codes "game: " ++ fault_text fault path)
-
--- the line that goes with a status
-abbrev pub IsLine : Words → Contents → ℕ → Bytes → Type 0
-IsLine words contents status text =
-    ((status ≡ 2) × (text ≡ message (codes "usage")))
-    ⊎ ((status ≡ 3) × (name : Bytes) × IsSolvePure words name × (text ≡ message (codes "cannot read " ++ name)))
-    ⊎ ((status ≡ 4) × (name : Bytes) × IsSolvePure words name × (text ≡ message (name ++ codes " is longer than 8388608 bytes")))
-    ⊎ ((status ≡ 5) × (fault : GameFault) × (path : Bytes) × IsFaultyGame words contents fault path × (text ≡ fault_line fault path))
-    ⊎ ((status ≡ 11) × (text ≡ message (codes "no memory")))
-    ⊎ ((status ≡ 12) × (text ≡ message (codes "write fault")))
-    ⊎ ((status ≡ 16) × (text ≡ message (codes "not built yet")))
+-- the status of such a check is 0 where a right certificate's text was told, and 6 where none was; want of memory is free
+abbrev pub IsVerdictOf : GameOf → Bytes → ℕ → Type 0
+IsVerdictOf game bytes status =
+    ((status ≡ 0) × (cert : CertOf) × IsRightText game bytes cert)
+    ⊎ ((status ≡ 6) × ((cert : CertOf) → IsRightText game bytes cert → ⊥))
+    ⊎ (status ≡ 11)

@@ -17,10 +17,14 @@ abbrev pub IsSolveMixed : Words → Bytes → Type 0
 IsSolveMixed words name =
     (words ≡ codes "solve" ∷ name ∷ []) ⊎ (words ≡ codes "solve" ∷ name ∷ codes "--kind" ∷ codes "mixed" ∷ [])
 
--- the first word is `play`, `check`, `best` or `gen`
+-- `check GAME CERT`
+abbrev pub IsCheck : Words → Bytes → Bytes → Type 0
+IsCheck words game cert = words ≡ codes "check" ∷ game ∷ cert ∷ []
+
+-- the first word is `play`, `best` or `gen`
 abbrev pub IsOtherAction : Words → Type 0
 IsOtherAction words =
-    (rest : Words) × ((words ≡ codes "play" ∷ rest) ⊎ (words ≡ codes "check" ∷ rest) ⊎ (words ≡ codes "best" ∷ rest) ⊎ (words ≡ codes "gen" ∷ rest))
+    (rest : Words) × ((words ≡ codes "play" ∷ rest) ⊎ (words ≡ codes "best" ∷ rest) ⊎ (words ≡ codes "gen" ∷ rest))
 
 -- words of an action that isn't built yet
 abbrev pub IsUnbuiltCommand : Words → Type 0
@@ -29,4 +33,9 @@ IsUnbuiltCommand words = ((name : Bytes) × IsSolveMixed words name) ⊎ IsOther
 -- words of no action
 pub record IsFaultyCommand (words : Words) : Type 0 where
   pub no_solve : (name : Bytes) → IsSolvePure words name → ⊥
+  pub no_check : (game cert : Bytes) → IsCheck words game cert → ⊥
   pub no_other : IsUnbuiltCommand words → ⊥
+
+-- the words name this game
+abbrev pub IsGameName : Words → Bytes → Type 0
+IsGameName words name = IsSolvePure words name ⊎ ((cert : Bytes) × IsCheck words name cert)

@@ -1,12 +1,14 @@
 ghost use Rattle.std.specs.Prelude.{◌≡◌, ◌↔◌, [], ◌∷◌, codes, map, string_bytes, IsTrue, slice_get, Some};
 ghost use Rattle.zero.specs.Commanded.{Says};
-ghost use Rattle.zero.specs.Commands.{Bytes, IsOtherAction, IsUnbuiltCommand};
+ghost use Rattle.zero.specs.Commands.{Bytes, IsCheck, IsOtherAction, IsUnbuiltCommand};
 
 /// What the words of the command line ask for.
 #[derive(Clone, Copy, Debug)]
 pub enum Command<'a> {
     /// `solve GAME --kind pure`.
     SolvePure { name: &'a str },
+    /// `check GAME CERT`.
+    Check { game: &'a str, cert: &'a str },
     /// An action that isn't built yet.
     Unbuilt,
     /// Words of no action.
@@ -21,11 +23,24 @@ pub fn command_of(words: &[String]) -> Command<'_>
         Command::SolvePure {
             name: words[1].as_str(),
         }
+    } else if is_check(words) {
+        Command::Check {
+            game: words[1].as_str(),
+            cert: words[2].as_str(),
+        }
     } else if is_unbuilt(words) {
         Command::Unbuilt
     } else {
         Command::Faulty
     }
+}
+
+/// Whether the words are `check GAME CERT`.
+fn is_check(words: &[String]) -> bool
+    ensures { IsTrue result ↔ ((game : Bytes) × (cert : Bytes)
+        × IsCheck (map string_bytes words.now) game cert) }
+{
+    words.len() == 3 && is_word(words, 0, "check")
 }
 
 /// Whether the words ask for what isn't built yet.
@@ -54,14 +69,11 @@ fn is_solve_of_kind(words: &[String], kind: &str) -> bool
         && is_word(words, 3, kind)
 }
 
-/// Whether the first word is an action other than `solve`.
+/// Whether the first word is an action other than `solve` and `check`.
 fn is_other_action(words: &[String]) -> bool
     ensures { IsTrue result ↔ IsOtherAction (map string_bytes words.now) }
 {
-    is_word(words, 0, "play")
-        || is_word(words, 0, "check")
-        || is_word(words, 0, "best")
-        || is_word(words, 0, "gen")
+    is_word(words, 0, "play") || is_word(words, 0, "best") || is_word(words, 0, "gen")
 }
 
 /// Whether this text stands at the place.

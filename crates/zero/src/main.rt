@@ -1,12 +1,18 @@
-//! Decides whether a game has an equilibrium in which each player plays one point:
-//! `zero solve GAME --kind pure`, where GAME is a file, or `-` for standard input.
+//! Equilibria of integer programming games, and the check of certificates.
+//!
+//! `zero solve GAME --kind pure` decides whether a game has an equilibrium in which each player
+//! plays one point. `zero check GAME CERT` tells whether a certificate is right for a game. GAME and
+//! CERT are files, or `-` for standard input.
 #![tactic(auto)]
 
 mod answer;
+mod check;
 mod command;
+mod reading;
 mod refusal;
 mod run;
 mod short;
+mod solve;
 #[cfg(test)]
 mod tests;
 

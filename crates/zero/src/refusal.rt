@@ -1,11 +1,46 @@
-ghost use Rattle.std.specs.Prelude.{◌≡◌, ◌≤◌, ◌++◌, Err, OnOk, OnErr};
+ghost use Rattle.std.specs.Prelude.{◌≡◌, ◌<◌, ◌≤◌, ◌+◌, ◌++◌, ◌∷◌, [], Err, OnOk, OnErr};
+ghost use Rattle.zr_form.specs.Numbers.{decimal};
 ghost use Rattle.zr_io.specs.Faults.{Rose};
 ghost use Rattle.zr_io.specs.Written.{Appends, AppendsPrefix};
-ghost use Rattle.zero.specs.Answers.{fault_line};
+ghost use Rattle.zero.specs.Messages.{fault_line, flaw_line, flaw_name};
 ghost use Rattle.zero.specs.Refusals.{line_of, status_of};
 
 use zr_io::{Sink, SinkError, put_all};
 use zr_read::GameFault;
+
+/// Why a line of a certificate's text is refused.
+#[derive(Clone, Copy, Debug, PartialEq, Eq)]
+pub enum CertFlaw {
+    /// The line is out of form.
+    Form,
+    /// The size of a number alone is at fault.
+    Number,
+    /// The line breaks a rule of the check.
+    Wrong,
+    /// A step of the line's sums is too wide.
+    Wide,
+}
+
+impl CertFlaw {
+    /// The word for it.
+    fn name(self) -> &'static str
+        ensures { result.now ≡ flaw_name self }
+    {
+        match self {
+            CertFlaw::Form => "form",
+            CertFlaw::Number => "number",
+            CertFlaw::Wrong => "wrong",
+            CertFlaw::Wide => "wide",
+        }
+    }
+
+    /// The refusal of a certificate's text at this line.
+    pub fn at<'a>(self, line: u32) -> Refusal<'a>
+        ensures { result ≡ Refusal.Flawed line self }
+    {
+        Refusal::Flawed { line, flaw: self }
+    }
+}
 
 /// Why the program gives no answer.
 #[derive(Debug, Drop)]
@@ -15,9 +50,13 @@ pub enum Refusal<'a> {
     /// The shelf failed at this name.
     CannotRead { name: &'a str },
     /// This name holds more bytes than a game text may have.
-    TooLong { name: &'a str },
+    LongGame { name: &'a str },
+    /// This name holds more bytes than a certificate's text may have.
+    LongCert { name: &'a str },
     /// The game text has this first fault, at this path.
     Faulty { fault: GameFault, path: String },
+    /// The certificate's text is refused at this line, the first one that is, counted from 1.
+    Flawed { line: u32, flaw: CertFlaw },
     /// There was no memory.
     NoMemory,
     /// The answer couldn't be written.
@@ -34,8 +73,9 @@ impl Refusal<'_> {
         match self {
             Refusal::Usage => 2,
             Refusal::CannotRead { .. } => 3,
-            Refusal::TooLong { .. } => 4,
+            Refusal::LongGame { .. } | Refusal::LongCert { .. } => 4,
             Refusal::Faulty { .. } => 5,
+            Refusal::Flawed { .. } => 6,
             Refusal::NoMemory => 11,
             Refusal::WriteFault => 12,
             Refusal::Unbuilt => 16,
@@ -56,10 +96,14 @@ impl Refusal<'_> {
         match self {
             Refusal::Usage => put_all(err, b"zero: usage\n"),
             Refusal::CannotRead { name } => put_named(err, "zero: cannot read ", name, "\n"),
-            Refusal::TooLong { name } => {
+            Refusal::LongGame { name } => {
                 put_named(err, "zero: ", name, " is longer than 8388608 bytes\n")
             }
+            Refusal::LongCert { name } => {
+                put_named(err, "zero: ", name, " is longer than 67108864 bytes\n")
+            }
             Refusal::Faulty { fault, path } => put_fault(err, *fault, path.as_str()),
+            Refusal::Flawed { line, flaw } => put_flaw(err, *line, *flaw),
             Refusal::NoMemory => put_all(err, b"zero: no memory\n"),
             Refusal::WriteFault => put_all(err, b"zero: write fault\n"),
             Refusal::Unbuilt => put_all(err, b"zero: not built yet\n"),
@@ -82,6 +126,46 @@ fn put_fault<E: Sink>(err: &mut E, fault: GameFault, path: &str) -> Result<(), S
             put_both(err, path, "\n")
         }
     }
+}
+
+/// The line of a certificate's line that is refused.
+fn put_flaw<E: Sink>(err: &mut E, line: u32, flaw: CertFlaw) -> Result<(), SinkError>
+    ensures ok { OnOk result (Appends (E.written err.old) (flaw_line line flaw) (E.written err.new)) }
+    ensures err { OnErr result (AppendsPrefix (E.written err.old) (flaw_line line flaw)
+        (E.written err.new)) }
+    ensures failed { result ≡ Err SinkError.Failed → Rose (E.faults_of err.old) (E.faults_of err.new) }
+    ensures grows { E.faults_of err.old ≤ E.faults_of err.new }
+{
+    put_all(err, b"zero: certificate: line ")?;
+    put_number(err, line)?;
+    put_named(err, ": ", flaw.name(), "\n")
+}
+
+/// The digits of a number.
+fn put_number<E: Sink>(err: &mut E, number: u32) -> Result<(), SinkError>
+    ensures ok { OnOk result (Appends (E.written err.old) (decimal number) (E.written err.new)) }
+    ensures err { OnErr result (AppendsPrefix (E.written err.old) (decimal number)
+        (E.written err.new)) }
+    ensures failed { result ≡ Err SinkError.Failed → Rose (E.faults_of err.old) (E.faults_of err.new) }
+    ensures grows { E.faults_of err.old ≤ E.faults_of err.new }
+{
+    if number < 10 {
+        return put_digit(err, number);
+    }
+    put_number(err, number / 10)?;
+    put_digit(err, number % 10)
+}
+
+/// The digit of a number below 10.
+fn put_digit<E: Sink>(err: &mut E, digit: u32) -> Result<(), SinkError>
+    requires { digit < 10 }
+    ensures ok { OnOk result (Appends (E.written err.old) ((48 + digit) ∷ []) (E.written err.new)) }
+    ensures err { OnErr result (AppendsPrefix (E.written err.old) ((48 + digit) ∷ [])
+        (E.written err.new)) }
+    ensures failed { result ≡ Err SinkError.Failed → Rose (E.faults_of err.old) (E.faults_of err.new) }
+    ensures grows { E.faults_of err.old ≤ E.faults_of err.new }
+{
+    put_all(err, &[b'0' + digit as u8])
 }
 
 /// A name between two texts.

@@ -33,6 +33,60 @@ const FOUND: &str =
 const PACKED: &str =
     "zero-short/1\nkind pure 2\nverdict profile\nplayer 0 total 1 parts 1\npart 1 1 0 1\nplayer 1 total 1 parts 1\npart 1 1 1 0\nend\n";
 
+const HALF: &str = r#"{"format":"zero-game/1","players":[
+{"name":"A","vars":[{"name":"x","int":true}],
+ "rows":[{"terms":[["x",2]],"le":1},{"terms":[["x",-2]],"le":-1}]}]}"#;
+
+const PAIRED: &str =
+    r#"{"format":"zero-game/1","players":[{"name":"A","vars":[{"name":"x"}],"pairs":[{"var":"x","terms":[],"add":1}]}]}"#;
+
+const PENNIES_CERT: &str = "zero-cert/1
+kind mixed 2
+verdict profile
+player 0 total 2 parts 2
+part 1 1 0
+part 1 1 1
+player 1 total 2 parts 2
+part 1 1 0
+part 1 1 1
+cost 0 0 1
+leaf 1 0
+cost 1 0 1
+leaf 1 0
+end
+";
+
+const KNAPSACK_CERT: &str = "zero-cert/1
+kind mixed 2
+verdict profile
+player 0 total 9 parts 2
+part 2 1 1 0
+part 7 1 0 1
+player 1 total 5 parts 2
+part 2 1 1 0
+part 3 1 0 1
+cost 0 -1 5
+split 1 0
+leaf 1 2 2 1 4 1
+split 0 0
+leaf 1 2 2 1 4 1
+leaf 0 3 0 1 1 3 3 4
+cost 1 -17 9
+split 1 0
+leaf 1 2 2 17 4 17
+leaf 2 2 0 17 3 51
+end
+";
+
+const HALF_CERT: &str = "zero-cert/1
+kind mixed 1
+verdict none empty 0
+split 0 0
+leaf 0 2 1 1 3 2
+leaf 0 2 0 1 2 2
+end
+";
+
 const NO_PENNIES: &str = "zero-short/1\nkind pure 2\nverdict none\nend\n";
 
 /// What a run over a shelf and sinks in memory gives.
@@ -59,17 +113,19 @@ fn one_call(alloc: Global, call: Option<u64>) -> Result<Vec<u64>, AllocError> {
     Ok(calls)
 }
 
-/// Runs the words over a shelf in which this name holds the content. The calls of the shelf, of
+/// Runs the words over a shelf in which these names hold the contents. The calls of the shelf, of
 /// `out` and of `err` with these numbers fail.
 fn run_over(
     alloc: Global,
     line: &str,
-    held: (&str, &[u8]),
+    held: &[(&str, &[u8])],
     fails: [Option<u64>; 3],
 ) -> Result<Run, AllocError> {
     let [shelf_fails, out_fails, err_fails] = fails;
     let mut items = Vec::new(alloc);
-    items.push((String::from_str(alloc, held.0)?, held.1.to_vec(alloc)?))?;
+    for (name, content) in held {
+        items.push((String::from_str(alloc, name)?, content.to_vec(alloc)?))?;
+    }
     let mut shelf = MemShelf::new(alloc, items, one_call(alloc, shelf_fails)?);
     let mut out = MemSink::new(alloc, one_call(alloc, out_fails)?);
     let mut err = MemSink::new(alloc, one_call(alloc, err_fails)?);
@@ -92,7 +148,7 @@ fn games_are_solved(rt: HostRuntime) -> Result<(), Fail> {
         (KNAPSACK, PACKED),
         (PENNIES, NO_PENNIES),
     ] {
-        let ran = run_over(rt.alloc(), SOLVE, ("g", text.as_bytes()), [None; 3])?;
+        let ran = run_over(rt.alloc(), SOLVE, &[("g", text.as_bytes())], [None; 3])?;
         compare(&rt, &ran, (0, answer, ""));
     }
     Ok(())
@@ -103,11 +159,13 @@ fn words_are_refused(rt: HostRuntime) -> Result<(), Fail> {
     for (line, status, said) in [
         ("", 2, "zero: usage\n"),
         ("solve g --kind", 2, "zero: usage\n"),
-        ("check g", 16, "zero: not built yet\n"),
+        ("check g", 2, "zero: usage\n"),
+        ("check g c d", 2, "zero: usage\n"),
+        ("best g c", 16, "zero: not built yet\n"),
         ("solve g", 16, "zero: not built yet\n"),
         ("solve g --kind mixed", 16, "zero: not built yet\n"),
     ] {
-        let ran = run_over(rt.alloc(), line, ("g", ONE_BINARY.as_bytes()), [None; 3])?;
+        let ran = run_over(rt.alloc(), line, &[("g", ONE_BINARY.as_bytes())], [None; 3])?;
         compare(&rt, &ran, (status, "", said));
     }
     Ok(())
@@ -136,7 +194,7 @@ fn contents_are_refused(rt: HostRuntime) -> Result<(), Fail> {
         ("g", b"[]".as_slice(), 5, "zero: game: Kind \n"),
         ("g", CONTINUOUS.as_bytes(), 16, "zero: not built yet\n"),
     ] {
-        let ran = run_over(alloc, SOLVE, (name, content), [None; 3])?;
+        let ran = run_over(alloc, SOLVE, &[(name, content)], [None; 3])?;
         compare(&rt, &ran, (status, "", said));
     }
     Ok(())
@@ -145,7 +203,7 @@ fn contents_are_refused(rt: HostRuntime) -> Result<(), Fail> {
 #[test]
 fn calls_fail_in_turn(rt: HostRuntime) -> Result<(), Fail> {
     let alloc = rt.alloc();
-    let held = ("g", ONE_BINARY.as_bytes());
+    let held = [("g", ONE_BINARY.as_bytes())];
     for (fails, want) in [
         ([Some(0), None, None], (3, "", "zero: cannot read g\n")),
         ([None, Some(0), None], (12, "", "zero: write fault\n")),
@@ -154,8 +212,188 @@ fn calls_fail_in_turn(rt: HostRuntime) -> Result<(), Fail> {
         ([None, Some(0), Some(0)], (12, "", "")),
         ([Some(1), Some(1), Some(1)], (0, FOUND, "")),
     ] {
-        let ran = run_over(alloc, SOLVE, held, fails)?;
+        let ran = run_over(alloc, SOLVE, &held, fails)?;
         compare(&rt, &ran, want);
     }
+    Ok(())
+}
+
+/// The text with this line, counted from 1, in place of its own.
+fn with_line(alloc: Global, text: &str, at: usize, line: &str) -> Result<String, AllocError> {
+    let mut changed = String::new(alloc);
+    for (i, old) in text.lines().enumerate() {
+        changed.push_str(if i + 1 == at { line } else { old })?;
+        changed.push_str("\n")?;
+    }
+    Ok(changed)
+}
+
+/// The first lines of the text.
+fn first_lines(alloc: Global, text: &str, count: usize) -> Result<String, AllocError> {
+    let mut start = String::new(alloc);
+    for line in text.lines().take(count) {
+        start.push_str(line)?;
+        start.push_str("\n")?;
+    }
+    Ok(start)
+}
+
+fn check_over(alloc: Global, game: &str, cert: &str) -> Result<Run, AllocError> {
+    let held = [("g", game.as_bytes()), ("c", cert.as_bytes())];
+    run_over(alloc, "check g c", &held, [None; 3])
+}
+
+#[test]
+fn certificates_are_accepted(rt: HostRuntime) -> Result<(), Fail> {
+    for (game, cert, answer) in [
+        (PENNIES, PENNIES_CERT, "accepted mixed profile\n"),
+        (KNAPSACK, KNAPSACK_CERT, "accepted mixed profile\n"),
+        (HALF, HALF_CERT, "accepted mixed none\n"),
+    ] {
+        let ran = check_over(rt.alloc(), game, cert)?;
+        compare(&rt, &ran, (0, answer, ""));
+    }
+    let pure = with_line(rt.alloc(), HALF_CERT, 2, "kind pure 1")?;
+    let ran = check_over(rt.alloc(), HALF, pure.as_str())?;
+    compare(&rt, &ran, (0, "accepted pure none\n", ""));
+    Ok(())
+}
+
+const BIG: &str = "part 100000000000000000000000000000000000000 1 1";
+
+/// Copies of the certificate for matching pennies with one line changed.
+#[test]
+fn changed_certificates_are_refused(rt: HostRuntime) -> Result<(), Fail> {
+    let alloc = rt.alloc();
+    for (at, line, said) in [
+        (6, "part 2 1 1", "zero: certificate: line 6: wrong\n"),
+        (11, "leaf 1 1 0 -1", "zero: certificate: line 11: form\n"),
+        (5, "part 1  1 0", "zero: certificate: line 5: form\n"),
+        (
+            11,
+            "leaf 1 1 0 100000000000000000000000000000000000000",
+            "zero: certificate: line 11: wrong\n",
+        ),
+        (
+            11,
+            "leaf 1 1 0 1000000000000000000000000000000000000000",
+            "zero: certificate: line 11: number\n",
+        ),
+        (1, "zero-cert/2", "zero: certificate: line 1: form\n"),
+        (2, "kind pure 2", "zero: certificate: line 6: wrong\n"),
+        (2, "kind mixed 17", "zero: certificate: line 2: number\n"),
+        (3, "verdict none cover", "zero: certificate: line 3: form\n"),
+        (
+            4,
+            "player 0 total 2 parts 4294967295",
+            "zero: certificate: line 7: form\n",
+        ),
+        (
+            4,
+            "player 0 total 2 parts 4294967296",
+            "zero: certificate: line 4: number\n",
+        ),
+        (
+            4,
+            "player 1 total 2 parts 2",
+            "zero: certificate: line 4: form\n",
+        ),
+        (
+            11,
+            "leaf 1 4294967295",
+            "zero: certificate: line 11: form\n",
+        ),
+        (10, "cost 0 1 2", "zero: certificate: line 10: wrong\n"),
+        (14, "end\nx", "zero: certificate: line 15: form\n"),
+    ] {
+        let cert = with_line(alloc, PENNIES_CERT, at, line)?;
+        let ran = check_over(alloc, PENNIES, cert.as_str())?;
+        compare(&rt, &ran, (6, "", said));
+    }
+    let big = with_line(alloc, PENNIES_CERT, 5, BIG)?;
+    let both = with_line(alloc, big.as_str(), 6, BIG)?;
+    let ran = check_over(alloc, PENNIES, both.as_str())?;
+    compare(&rt, &ran, (6, "", "zero: certificate: line 6: wide\n"));
+    Ok(())
+}
+
+/// A certificate of which only the first lines are there is refused at the first that is missing.
+#[test]
+fn cut_certificates_are_refused(rt: HostRuntime) -> Result<(), Fail> {
+    let alloc = rt.alloc();
+    for (count, said) in [
+        (0, "zero: certificate: line 1: form\n"),
+        (2, "zero: certificate: line 3: form\n"),
+        (5, "zero: certificate: line 6: form\n"),
+        (10, "zero: certificate: line 11: form\n"),
+        (13, "zero: certificate: line 14: form\n"),
+    ] {
+        let cert = first_lines(alloc, PENNIES_CERT, count)?;
+        let ran = check_over(alloc, PENNIES, cert.as_str())?;
+        compare(&rt, &ran, (6, "", said));
+    }
+    let feedless = &PENNIES_CERT.as_bytes()[..PENNIES_CERT.len() - 1];
+    let held = [("g", PENNIES.as_bytes()), ("c", feedless)];
+    let ran = run_over(alloc, "check g c", &held, [None; 3])?;
+    compare(&rt, &ran, (6, "", "zero: certificate: line 14: form\n"));
+    Ok(())
+}
+
+/// The game's causes come before the certificate's.
+#[test]
+fn checks_are_refused_in_order(rt: HostRuntime) -> Result<(), Fail> {
+    let alloc = rt.alloc();
+    let pennies = ("g", PENNIES.as_bytes());
+    let cert = ("c", PENNIES_CERT.as_bytes());
+    let faulty = ("g", b"[]".as_slice());
+    let paired = ("g", PAIRED.as_bytes());
+    let empty = ("c", b"".as_slice());
+    for (held, fails, want) in [
+        ([cert, cert], [None; 3], (3, "", "zero: cannot read g\n")),
+        ([faulty, faulty], [None; 3], (5, "", "zero: game: Kind \n")),
+        (
+            [paired, empty],
+            [None; 3],
+            (16, "", "zero: not built yet\n"),
+        ),
+        (
+            [pennies, pennies],
+            [None; 3],
+            (3, "", "zero: cannot read c\n"),
+        ),
+        (
+            [pennies, cert],
+            [Some(1), None, None],
+            (3, "", "zero: cannot read c\n"),
+        ),
+        (
+            [pennies, empty],
+            [None; 3],
+            (6, "", "zero: certificate: line 1: form\n"),
+        ),
+        ([pennies, empty], [None, None, Some(0)], (6, "", "")),
+        (
+            [pennies, cert],
+            [None, Some(0), None],
+            (12, "", "zero: write fault\n"),
+        ),
+    ] {
+        let ran = run_over(alloc, "check g c", &held, fails)?;
+        compare(&rt, &ran, want);
+    }
+    Ok(())
+}
+
+#[test]
+fn a_long_certificate_is_refused(rt: HostRuntime) -> Result<(), Fail> {
+    let alloc = rt.alloc();
+    let spaces = vec![in alloc; b' '; 67_108_865]?;
+    let held = [("g", PENNIES.as_bytes()), ("c", spaces.as_slice())];
+    let ran = run_over(alloc, "check g c", &held, [None; 3])?;
+    compare(
+        &rt,
+        &ran,
+        (4, "", "zero: c is longer than 67108864 bytes\n"),
+    );
     Ok(())
 }

@@ -1,7 +1,7 @@
 use Rattle.std.proofs.lemmas.Grind.{common_steps}
 use Rattle.std.proofs.Common.{rules, arith, ◌++◌, ◌∷◌, [], codes, OnOk, OnErr, sym, subst}
 use Rattle.zr_io.specs.Written.{Appends, AppendsPrefix}
-use Rattle.zero.specs.Answers.{fault_line}
+use Rattle.zero.specs.Messages.{fault_line}
 use Rattle.zero.proofs.WritingLemmas.{ok_then, err_then, first_prefix, on_err, fault_pieces}
 use Rattle.zero.proofs.refusal.put_fault.Goals as goal
 

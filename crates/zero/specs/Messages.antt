@@ -1,0 +1,40 @@
+-- The lines that the program says.
+use Rattle.std.specs.Prelude.{ℕ, ◌∷◌, ◌++◌, codes}
+use Rattle.zr_form.specs.Numbers.{decimal}
+use Rattle.zr_io.specs.Contents.{Bytes}
+use Rattle.zr_read.specs.declared.fault.GameFault.{GameFault}
+use Rattle.zr_read.specs.declared.fault.GameFault.TheVariants.{NotJson}
+use Rattle.zr_read.specs.Faults.{fault_name}
+use Rattle.zero.specs.declared.refusal.CertFlaw.{CertFlaw}
+use Rattle.zero.specs.declared.refusal.CertFlaw.TheVariants.{Form, Number, Wrong, Wide}
+use Rattle.zero.specs.ShortText.{line}
+
+-- a line of the program
+abbrev pub message : Bytes → Bytes
+message text = line (codes "zero: " ++ text)
+
+-- the fault's name, and the path of the value; bad JSON has no path
+abbrev pub fault_text : GameFault → Bytes → Bytes
+fault_text NotJson path = fault_name NotJson
+fault_text fault path = fault_name fault ++ 32 ∷ path
+
+-- the line of a fault at a path
+abbrev pub fault_line : GameFault → Bytes → Bytes
+fault_line fault path = message (codes "game: " ++ fault_text fault path)
+
+-- a game text of more bytes, and a certificate text of more
+abbrev pub long_game_line : Bytes → Bytes
+long_game_line name = message (name ++ codes " is longer than 8388608 bytes")
+
+abbrev pub long_cert_line : Bytes → Bytes
+long_cert_line name = message (name ++ codes " is longer than 67108864 bytes")
+
+abbrev pub flaw_name : CertFlaw → Bytes
+flaw_name Form = codes "form"
+flaw_name Number = codes "number"
+flaw_name Wrong = codes "wrong"
+flaw_name Wide = codes "wide"
+
+-- the line of a certificate's first line that is refused
+abbrev pub flaw_line : ℕ → CertFlaw → Bytes
+flaw_line number flaw = message (codes "certificate: line " ++ decimal number ++ codes ": " ++ flaw_name flaw)

@@ -1,0 +1,111 @@
+ghost use Rattle.std.specs.Prelude.{◌≡◌, ◌≢◌, ◌≤◌, Option, Some, None, IfOk, IfErr, IsErrAnd, length, string_bytes};
+ghost use Rattle.zr_game.specs.Games.{game_of};
+ghost use Rattle.zr_game.specs.Players.{GameOf};
+ghost use Rattle.zr_io.specs.Contents.{Bytes};
+ghost use Rattle.zr_io.specs.Faults.{Rose};
+ghost use Rattle.zr_cert.specs.Certs.{verdict_of};
+ghost use Rattle.zr_cert.specs.Listed.{cert_of};
+ghost use Rattle.zr_text.specs.Faults.{IsText};
+ghost use Rattle.zero.specs.Commands.{IsCheck, Words};
+ghost use Rattle.zero.specs.Answers.{IsAccepted, IsAnswer, accepted_text, kind_name, verdict_name};
+ghost use Rattle.zero.specs.Causes.{IsCause, IsCertFlaw};
+ghost use Rattle.zero.specs.Reads.{cert_limit};
+ghost use Rattle.zero.specs.Refusals.{status_of};
+
+use crate::reading::{Text, content_of, game_in};
+use crate::refusal::{CertFlaw, Refusal};
+use std::alloc::Global;
+use zr_check::{Cert, CertFault, Verdict, check_cert, scratch_for};
+use zr_game::{Game, Kind};
+use zr_io::Shelf;
+use zr_text::{TextError, read_cert};
+
+/// The text that says that the certificate is accepted for the game, each under its name.
+pub fn check<'w, S: Shelf>(
+    alloc: Global,
+    game_name: &'w str,
+    cert_name: &'w str,
+    shelf: &mut S,
+) -> Result<String, Refusal<'w>>
+    ensures ok { (words : Words) → IsCheck words game_name.now cert_name.now
+        → IfOk result (λ text. IsAnswer words (S.contents shelf.old) (string_bytes text)) }
+    ensures err { (words : Words) → IsCheck words game_name.now cert_name.now
+        → IfErr result (IsCause words (S.contents shelf.old)) }
+
+    ensures unread { IfErr result (λ refusal. status_of refusal ≡ 3
+        → Rose (S.faults_of shelf.old) (S.faults_of shelf.new)) }
+    ensures lacks { (get : Bytes → Option Bytes)
+        → S.contents shelf.old ≡ Some get → get game_name.now ≡ None
+        → IsErrAnd result (λ refusal. status_of refusal ≡ 3) }
+    ensures unwritten { IfErr result (λ refusal. status_of refusal ≢ 12) }
+
+    ensures contents { S.contents shelf.new ≡ S.contents shelf.old }
+    ensures grows { S.faults_of shelf.old ≤ S.faults_of shelf.new }
+{
+    let game_text = content_of(shelf, game_name, Text::Game)?;
+    let game = game_in(alloc, game_text.as_slice())?;
+    let cert_text = content_of(shelf, cert_name, Text::Cert)?;
+    accept(alloc, &game, cert_text.as_slice())
+}
+
+/// The text that says that the bytes are the text of a certificate that is accepted for the game.
+fn accept<'w>(alloc: Global, game: &Game, bytes: &[u8]) -> Result<String, Refusal<'w>>
+    requires { length bytes.now ≤ cert_limit }
+    ensures ok { IfOk result (λ text. IsAccepted (game_of game.now) bytes.now (string_bytes text)) }
+    ensures err { IfErr result (IsCertFlaw (game_of game.now) bytes.now) }
+{
+    let cert = cert_in(alloc, bytes)?;
+    let Ok(mut room) = scratch_for(alloc, game, &cert) else {
+        return Err(Refusal::NoMemory);
+    };
+    match check_cert(game, &cert, &mut room) {
+        Ok(()) => accepted(alloc, &cert),
+        Err(CertFault::Bad(line)) => Err(CertFlaw::Wrong.at(line)),
+        Err(CertFault::Wide(line)) => Err(CertFlaw::Wide.at(line)),
+    }
+}
+
+/// The certificate whose text the bytes are.
+fn cert_in<'w>(alloc: Global, bytes: &[u8]) -> Result<Cert, Refusal<'w>>
+    requires { length bytes.now ≤ cert_limit }
+    ensures ok { IfOk result (λ cert. IsText (cert_of cert) bytes.now) }
+    ensures err { (game : GameOf) → IfErr result (IsCertFlaw game bytes.now) }
+{
+    match read_cert(alloc, bytes) {
+        Ok(cert) => Ok(cert),
+        Err(TextError::NotCert(line)) => Err(CertFlaw::Form.at(line)),
+        Err(TextError::NumberTooBig(line)) => Err(CertFlaw::Number.at(line)),
+        Err(TextError::NoMemory) => Err(Refusal::NoMemory),
+    }
+}
+
+/// The line for an accepted certificate.
+fn accepted<'w>(alloc: Global, cert: &Cert) -> Result<String, Refusal<'w>>
+    ensures ok { IfOk result (λ text. string_bytes text ≡ accepted_text (cert_of cert.now)) }
+    ensures err { IfErr result (λ refusal. refusal ≡ Refusal.NoMemory) }
+{
+    let kind = name_of_kind(cert.kind);
+    let verdict = name_of_verdict(&cert.verdict);
+    match format!(in alloc; "accepted {kind} {verdict}\n") {
+        Ok(text) => Ok(text),
+        Err(_) => Err(Refusal::NoMemory),
+    }
+}
+
+fn name_of_kind(kind: Kind) -> &'static str
+    ensures { result.now ≡ kind_name kind }
+{
+    match kind {
+        Kind::Pure => "pure",
+        Kind::Mixed => "mixed",
+    }
+}
+
+fn name_of_verdict(verdict: &Verdict) -> &'static str
+    ensures { result.now ≡ verdict_name (verdict_of verdict.now) }
+{
+    match verdict {
+        Verdict::Profile { .. } => "profile",
+        Verdict::NoneEmpty { .. } => "none",
+    }
+}

@@ -1,0 +1,69 @@
+ghost use Rattle.std.specs.Prelude.{◌≡◌, ◌≢◌, ◌≤◌, Option, Some, None, IfOk, IfErr, IsErrAnd, string_bytes};
+ghost use Rattle.zr_game.specs.Games.{game_of};
+ghost use Rattle.zr_trial.specs.Reach.{IsWithinReach};
+ghost use Rattle.zr_io.specs.Contents.{Bytes};
+ghost use Rattle.zr_io.specs.Faults.{Rose};
+ghost use Rattle.zero.specs.Commands.{IsSolvePure, Words};
+ghost use Rattle.zero.specs.Answers.{IsAnswer, IsAnswered, IsShortAnswer};
+ghost use Rattle.zero.specs.Causes.{IsCause, IsSolveFlaw};
+ghost use Rattle.zero.specs.Refusals.{status_of};
+
+use crate::reading::{Text, content_of, game_in};
+use crate::refusal::Refusal;
+use crate::short::{none_text, profile_text};
+use std::alloc::{AllocError, Global};
+use zr_game::Game;
+use zr_io::Shelf;
+use zr_trial::{first_equilibrium, is_within_reach};
+
+/// The text of the first pure equilibrium of the game under this name, or that it has none.
+pub fn solve<'w, S: Shelf>(
+    alloc: Global,
+    name: &'w str,
+    shelf: &mut S,
+) -> Result<String, Refusal<'w>>
+    ensures ok { (words : Words) → IsSolvePure words name.now
+        → IfOk result (λ text. IsAnswer words (S.contents shelf.old) (string_bytes text)) }
+    ensures err { (words : Words) → IsSolvePure words name.now
+        → IfErr result (IsCause words (S.contents shelf.old)) }
+
+    ensures unread { IfErr result (λ refusal. status_of refusal ≡ 3
+        → Rose (S.faults_of shelf.old) (S.faults_of shelf.new)) }
+    ensures lacks { (get : Bytes → Option Bytes)
+        → S.contents shelf.old ≡ Some get → get name.now ≡ None
+        → IsErrAnd result (λ refusal. status_of refusal ≡ 3) }
+    ensures unwritten { IfErr result (λ refusal. status_of refusal ≢ 12) }
+
+    ensures contents { S.contents shelf.new ≡ S.contents shelf.old }
+    ensures grows { S.faults_of shelf.old ≤ S.faults_of shelf.new }
+{
+    let bytes = content_of(shelf, name, Text::Game)?;
+    answer_text(alloc, bytes.as_slice())
+}
+
+/// The text that answers the bytes of a game text.
+fn answer_text<'w>(alloc: Global, bytes: &[u8]) -> Result<String, Refusal<'w>>
+    ensures ok { IfOk result (λ text. IsAnswered bytes.now (string_bytes text)) }
+    ensures err { IfErr result (IsSolveFlaw bytes.now) }
+{
+    let game = game_in(alloc, bytes)?;
+    if !is_within_reach(&game) {
+        return Err(Refusal::Unbuilt);
+    }
+    match decide(alloc, &game) {
+        Ok(text) => Ok(text),
+        Err(_) => Err(Refusal::NoMemory),
+    }
+}
+
+/// The text of the game's first pure equilibrium, or that it has none.
+fn decide(alloc: Global, game: &Game) -> Result<String, AllocError>
+    requires { IsWithinReach (game_of game.now) }
+    ensures { IfOk result (λ text. IsShortAnswer (game_of game.now) (string_bytes text)) }
+{
+    match first_equilibrium(alloc, game) {
+        Ok(Some(points)) => profile_text(alloc, points.as_slice()),
+        Ok(None) => none_text(alloc, game.players.len()),
+        Err(_) => Err(AllocError),
+    }
+}
