@@ -2,7 +2,7 @@
 use Rattle.std.specs.Prelude.{◌≡◌, ℕ, ◌≤◌, List, ◌++◌, length, Option, Some, codes, ◌⊎◌}
 use Rattle.zr_base.specs.Points.{PointOf}
 use Rattle.zr_game.specs.Players.{GameOf}
-use Rattle.zr_game.specs.Equilibria.{HasNone}
+use Rattle.zr_game.specs.Equilibria.{HasNoEquilibrium}
 use Rattle.zr_game.specs.declared.kind.Kind.{Kind}
 use Rattle.zr_game.specs.declared.kind.Kind.TheVariants.{Pure, Mixed}
 use Rattle.zr_io.specs.Contents.{Bytes, Contents}
@@ -31,7 +31,7 @@ use Rattle.zero.specs.declared.refusal.CertFlaw.TheVariants.{Form, Number, Wrong
 abbrev pub IsShortAnswer : GameOf → Bytes → Type 0
 IsShortAnswer game text =
     ((points : List PointOf) × IsFirstEquilibrium game points × (text ≡ profile_text (pure_profile points)))
-    ⊎ (HasNone game Pure × (text ≡ none_text (length game)))
+    ⊎ (HasNoEquilibrium game Pure × (text ≡ none_text (length game)))
 
 -- the bytes stand for a game within reach, and the text answers it
 pub record IsAnswered (bytes text : Bytes) : Type 0 where

@@ -3,7 +3,7 @@ use Rattle.std.proofs.Common.{ℕ, arith, sym, subst, List, [], ◌∷◌, All}
 use Rattle.std.proofs.lemmas.List.Elements.{All-head}
 use Rattle.zr_base.specs.Points.{PointOf}
 use Rattle.zr_game.specs.declared.kind.Kind.{Kind}
-use Rattle.zr_game.specs.Equilibria.{HasNone}
+use Rattle.zr_game.specs.Equilibria.{HasNoEquilibrium}
 use Rattle.zr_game.specs.Feasible.{IsFeasible}
 use Rattle.zr_game.specs.Forms.{IsGame, IsPlayer}
 use Rattle.zr_game.specs.Leaves.{Bound, BoundHolds, root_leaf}
@@ -45,7 +45,7 @@ module _ (game : GameOf) (form : IsGame game) where
       let right = right_if_refuted player (no_point player) p.tree (root_leaf player) p.refuted in
       none_meets player x feasible.point (row_holds i player is (no_point player) p.tree (subst (All IsNodeForm) (sym p.listed) p.whole.forms) right x feasible)
 
-  pub none_if_empty : (kind : Kind) (i : ℕ) (player : PlayerOf) → IsPlayer game i player → (nodes : List NodeOf) → ProvesEmpty player nodes → HasNone game kind
+  pub none_if_empty : (kind : Kind) (i : ℕ) (player : PlayerOf) → IsPlayer game i player → (nodes : List NodeOf) → ProvesEmpty player nodes → HasNoEquilibrium game kind
   none_if_empty kind i player is nodes p profile of_kind equilibrium =
       let f = feasible_point player (strategy_of profile i) (equilibrium.valid.strategies i player is) in
       none_feasible i player is nodes p f.0 f.1

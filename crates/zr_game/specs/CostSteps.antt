@@ -1,11 +1,12 @@
 -- The steps by which a cost is made, each of which may be too wide.
-use Rattle.std.specs.Prelude.{◌≡◌, ℕ, ℤ, pos, length, Result, Ok, List, [], ◌∷◌}
+use Rattle.std.specs.Prelude.{◌≡◌, ℕ, ℤ, pos, length, Option, Some, None, Result, Ok, List, [], ◌∷◌}
 use Rattle.zr_base.specs.declared.step.Wide.{Wide}
 use Rattle.zr_base.specs.Steps.{◌>>=◌}
 use Rattle.zr_base.specs.Fractions.{Fraction, whole}
 use Rattle.zr_base.specs.Lowest.{reduce, add_of, mul_of}
 use Rattle.zr_base.specs.Points.{PointOf, num_of}
 use Rattle.zr_game.specs.declared.player.CrossTerm.{CrossTerm}
+use Rattle.zr_game.specs.declared.player.Other.{Other}
 use Rattle.zr_game.specs.Players.{GameOf, PlayerOf}
 use Rattle.zr_game.specs.Forms.{IsPlayer}
 use Rattle.zr_game.specs.Costs.{point_of}
@@ -29,13 +30,25 @@ cross_term i points t = do
   first ← own_term (point_of points i) (t.own, t.coef)
   times_value first (point_of points t.player) t.var
 
+-- a times the value of the variable at the place, if there is one
+abbrev pub times_place : List PointOf → Fraction → Option (ℕ × ℕ) → Result Fraction Wide
+times_place points a None = Ok a
+times_place points a (Some at) = times_value a (point_of points at.0) at.1
+
+-- a number times the first value, and that times the second, if there is one
+abbrev pub other_term : List PointOf → Other → Result Fraction Wide
+other_term points t = do
+  first ← times_value (whole t.coef) (point_of points t.first.0) t.first.1
+  times_place points first t.second
+
 -- the sum from s on of what is made of each item in turn
 abbrev pub sum_made : {A : Type 0} → (A → Result Fraction Wide) → Fraction → List A → Result Fraction Wide
 sum_made make s [] = Ok s
 sum_made make s (x ∷ xs) = make x >>= λ a. add_of s a >>= λ r. sum_made make r xs
 
--- from 0 on the own terms, and then the cross terms
+-- from 0 on the own terms, then the cross terms, and then the terms in the others' variables alone
 abbrev pub cost_steps : PlayerOf → ℕ → List PointOf → Result Fraction Wide
 cost_steps player i points = do
   own ← sum_made (own_term (point_of points i)) (whole (pos 0)) player.cost
-  sum_made (cross_term i points) own player.cross
+  crossed ← sum_made (cross_term i points) own player.cross
+  sum_made (other_term points) crossed player.others

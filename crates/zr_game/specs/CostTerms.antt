@@ -1,8 +1,10 @@
--- A cross term of player i at one point per player.
+-- The terms of a player's cost at one point per player.
 use Rattle.std.specs.Prelude.{ℕ, ◌<◌, length, List}
+use Rattle.std.specs.Option.{ForSome}
 use Rattle.zr_base.specs.Fractions.{Fraction, whole, times}
 use Rattle.zr_base.specs.Points.{PointOf, value_of}
 use Rattle.zr_game.specs.declared.player.CrossTerm.{CrossTerm}
+use Rattle.zr_game.specs.declared.player.Other.{Other}
 use Rattle.zr_game.specs.Costs.{point_of}
 
 -- the points of player i and of the term's player have the term's variables
@@ -16,3 +18,11 @@ pub record IsTermAt (i : ℕ) (points : List PointOf) (t : CrossTerm) : Type 0 w
 abbrev pub cross_value : ℕ → List PointOf → CrossTerm → Fraction
 cross_value i points t =
     times (whole t.coef) (times (value_of (point_of points i) t.own) (value_of (point_of points t.player) t.var))
+
+-- the points have the variable at this place
+abbrev pub HasPlace : List PointOf → ℕ × ℕ → Type 0
+HasPlace points at = (at.0 < length points) × (at.1 < length (point_of points at.0).num)
+
+-- the points have the variables of a term in the others' variables
+abbrev pub IsOtherAt : List PointOf → Other → Type 0
+IsOtherAt points t = HasPlace points t.first × ForSome t.second (HasPlace points)

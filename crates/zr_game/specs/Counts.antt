@@ -8,3 +8,4 @@ pub record AreCounts (player : PlayerOf) : Type 0 where
   pub rows : length player.rows ≤ 256
   pub pairs : length player.pairs ≤ 32
   pub cross : length player.cross ≤ 65536
+  pub others : length player.others ≤ 65536

@@ -10,9 +10,9 @@ use Rattle.zr_game.specs.Players.{PlayerOf, PairOf, VarOf}
 abbrev pub IsMultiple : ℤ → ℤ → Type 0
 IsMultiple n d = (k : ℤ) × (n ≡ k *ℤ d)
 
--- a value n / d of a variable: at least 0, at most its bound, and whole where it has to be
+-- a value n / d of a variable: within its bounds, where it has them, and whole where it has to be
 pub record IsWithin (var : VarOf) (n d : ℤ) : Type 0 where
-  pub low : (pos 0) ≤ℤ n
+  pub low : IfSome var.low (λ low. (low *ℤ d) ≤ℤ n)
   pub high : IfSome var.up (λ up. n ≤ℤ (up *ℤ d))
   pub whole : IsTrue var.whole → IsMultiple n d
 
@@ -24,9 +24,10 @@ AreWithin vars x = (v : ℕ) (var : VarOf) → slice_get vars v ≡ Some var →
 abbrev pub slack : PairOf → PointOf → ℤ
 slack pair x = sum_products (products pair.coef x.num) +ℤ pair.add *ℤ x.den
 
--- the sum is at least 0, and it or the variable is 0
+-- the variable and the sum are at least 0, and one of them is 0
 abbrev pub PairHolds : PointOf → PairOf → Type 0
-PairHolds x pair = ((pos 0) ≤ℤ slack pair x) × ((num_of x pair.var ≡ pos 0) ⊎ (slack pair x ≡ pos 0))
+PairHolds x pair =
+    ((pos 0) ≤ℤ num_of x pair.var) × ((pos 0) ≤ℤ slack pair x) × ((num_of x pair.var ≡ pos 0) ⊎ (slack pair x ≡ pos 0))
 
 -- the point is one of the player: it has a number per variable, and keeps all bounds, rows and pairs
 pub record IsFeasible (player : PlayerOf) (x : PointOf) : Type 0 where

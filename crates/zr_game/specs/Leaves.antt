@@ -1,5 +1,5 @@
 -- Leaves: a player's bounds and sides on one branch of a tree, and the rows that hold there.
-use Rattle.std.specs.Prelude.{◌≡◌, ℕ, suc, ◌==◌, ◌<◌, ℤ, pos, negsuc, neg_ℤ, ◌+ℤ◌, ◌*ℤ◌, ◌≤ℤ◌, int_le, true, Option, Some, None, if◌then◌else◌, List, [], ◌∷◌, ◌++◌, map, length, slice_get, slice_index_or}
+use Rattle.std.specs.Prelude.{◌≡◌, ℕ, suc, ◌==◌, ◌<◌, ℤ, pos, negsuc, neg_ℤ, ◌+ℤ◌, ◌*ℤ◌, ◌<ℤ◌, ◌≤ℤ◌, int_le, true, Option, Some, None, if◌then◌else◌, List, [], ◌∷◌, ◌++◌, map, length, slice_get, slice_index_or}
 use Rattle.std.specs.Option.{option_and_then}
 use Rattle.zr_base.specs.Sums.{sum_to}
 use Rattle.zr_base.specs.Terms.{coef_at}
@@ -10,15 +10,15 @@ use Rattle.zr_game.specs.declared.leaf.Leaf.{Leaf}
 use Rattle.zr_game.specs.declared.leaf.Side.{Side}
 use Rattle.zr_game.specs.declared.leaf.Side.TheVariants.{Undecided, VarZero, RowZero}
 
--- the bounds of each variable, by its number, and the side of each pair
+-- the bounds of each variable, by its number, where it has them, and the side of each pair
 pub record LeafOf : Type 0 where
-  pub low : ℕ → ℤ
+  pub low : ℕ → Option ℤ
   pub high : ℕ → Option ℤ
   pub side : ℕ → Side
 
 abbrev pub leaf_of : Leaf → LeafOf
 leaf_of leaf = record {
-  low = λ v. slice_index_or leaf.low.items v (pos 0);
+  low = λ v. slice_index_or leaf.low.items v None;
   high = λ v. slice_index_or leaf.high.items v None;
   side = λ p. slice_index_or leaf.sides.items p Undecided;
 }
@@ -29,21 +29,25 @@ pub record IsLeafOf (player : PlayerOf) (leaf : Leaf) : Type 0 where
   pub highs : length leaf.high.items ≡ length player.vars
   pub sides : length leaf.sides.items ≡ length player.pairs
 
--- the upper bound of variable v
+-- the lower bound of variable v, and its upper bound
+abbrev pub low_of : List VarOf → ℕ → Option ℤ
+low_of vars v = option_and_then (λ var. var.low) (slice_get vars v)
+
 abbrev pub up_of : List VarOf → ℕ → Option ℤ
 up_of vars v = option_and_then (λ var. var.up) (slice_get vars v)
 
--- the leaf of all points: from 0 to the upper bounds, with every side undecided
+-- the leaf of all points: the variables' bounds, with every side undecided
 abbrev pub root_leaf : PlayerOf → LeafOf
-root_leaf player = record { low = λ v. pos 0; high = up_of player.vars; side = λ p. Undecided }
+root_leaf player = record { low = low_of player.vars; high = up_of player.vars; side = λ p. Undecided }
 
--- the lesser of a bound, if there is one, and a number
+-- the lesser of a bound, if there is one, and a number; and the greater
 abbrev pub lesser : Option ℤ → ℤ → ℤ
 lesser None b = b
 lesser (Some a) b = if int_le a b then a else b
 
-abbrev pub greater : ℤ → ℤ → ℤ
-greater a b = if int_le a b then b else a
+abbrev pub greater : Option ℤ → ℤ → ℤ
+greater None b = b
+greater (Some a) b = if int_le a b then b else a
 
 -- where variable v is at most `at`
 abbrev pub below : LeafOf → ℕ → ℤ → LeafOf
@@ -51,7 +55,7 @@ below leaf v at = record leaf { high = λ w. if v == w then Some (lesser (leaf.h
 
 -- where variable v is at least `at + 1`
 abbrev pub above : LeafOf → ℕ → ℤ → LeafOf
-above leaf v at = record leaf { low = λ w. if v == w then greater (leaf.low w) (at +ℤ pos 1) else leaf.low w }
+above leaf v at = record leaf { low = λ w. if v == w then Some (greater (leaf.low w) (at +ℤ pos 1)) else leaf.low w }
 
 -- where pair p has this side
 abbrev pub decided : LeafOf → ℕ → Side → LeafOf
@@ -59,7 +63,8 @@ decided leaf p side = record leaf { side = λ q. if p == q then side else leaf.s
 
 -- each whole variable has one value, and no pair is undecided
 pub record IsSettled (player : PlayerOf) (leaf : LeafOf) : Type 0 where
-  pub vars : (v : ℕ) (var : VarOf) → slice_get player.vars v ≡ Some var → var.whole ≡ true → leaf.high v ≡ Some (leaf.low v)
+  pub vars : (v : ℕ) (var : VarOf) → slice_get player.vars v ≡ Some var → var.whole ≡ true
+      → (value : ℤ) × (leaf.low v ≡ Some value) × (leaf.high v ≡ Some value)
   pub pairs : (p : ℕ) → p < length player.pairs → leaf.side p ≡ Undecided → ⊥
 
 -- the row `coef * x <= le`, with a number for each column
@@ -82,9 +87,10 @@ at_column v a j = if v == j then a else pos 0
 abbrev pub row_slot : RowOf → Option Bound
 row_slot row = Some (record { coef = coef_at row.coef; le = row.le })
 
--- `-x_v <= -low`
-abbrev pub low_slot : ℕ → ℤ → Option Bound
-low_slot v low = Some (record { coef = at_column v (negsuc 0); le = neg_ℤ low })
+-- `-x_v <= -low`, where there is a low bound
+abbrev pub low_slot : ℕ → Option ℤ → Option Bound
+low_slot v None = None
+low_slot v (Some low) = Some (record { coef = at_column v (negsuc 0); le = neg_ℤ low })
 
 -- `x_v <= high`, where there is a high bound
 abbrev pub high_slot : ℕ → Option ℤ → Option Bound
@@ -119,3 +125,21 @@ slots player leaf = map row_slot player.rows ++ (var_slots leaf 0 player.vars ++
 -- the row of slot k, if it is present
 abbrev pub slot_of : List (Option Bound) → ℕ → Option Bound
 slot_of rows k = option_and_then (λ slot. slot) (slice_get rows k)
+
+-- the player has a whole variable v
+abbrev pub IsWholeVar : PlayerOf → ℕ → Type 0
+IsWholeVar player v = (var : VarOf) × (slice_get player.vars v ≡ Some var) × (var.whole ≡ true)
+
+-- the player has a pair p, which is undecided at the leaf
+abbrev pub IsOpenPair : PlayerOf → LeafOf → ℕ → Type 0
+IsOpenPair player leaf p = (p < length player.pairs) × (leaf.side p ≡ Undecided)
+
+-- the point meets the row of each slot that is present
+pub record MeetsLeaf (player : PlayerOf) (leaf : LeafOf) (x : PointOf) : Type 0 where
+  pub point : (pos 0) <ℤ x.den
+  pub len : length x.num ≡ length player.vars
+  pub rows : (k : ℕ) (row : Bound) → slot_of (slots player leaf) k ≡ Some row → BoundHolds player x row
+
+-- some point does
+abbrev pub HasPoint : PlayerOf → LeafOf → Type 0
+HasPoint player leaf = (x : PointOf) × MeetsLeaf player leaf x

@@ -14,3 +14,6 @@ pub mod Means
 pub mod PureProfiles
 pub mod CostTerms
 pub mod Counts
+pub mod Rays
+pub mod RaySteps
+pub mod Named

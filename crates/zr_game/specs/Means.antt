@@ -7,6 +7,7 @@ use Rattle.zr_base.specs.Points.{PointOf, value_of}
 use Rattle.zr_game.specs.Players.{GameOf, PlayerOf}
 use Rattle.zr_game.specs.Forms.{IsPlayer}
 use Rattle.zr_game.specs.Feasible.{IsFeasible}
+use Rattle.zr_game.specs.Costs.{rest_at}
 use Rattle.zr_game.specs.Profiles.{Profile, Strategy, weighted, total, strategy_of}
 
 -- the mean of variable v
@@ -18,6 +19,14 @@ abbrev pub slope : PlayerOf → Profile → ℕ → Fraction
 slope player profile v =
     plus (whole (coef_at player.cost v))
     (sum_over (filter (λ t. t.own == v) player.cross) (λ t. times (whole t.coef) (mean (strategy_of profile t.player) t.var)))
+
+-- the mean of variable v of player k
+abbrev pub mean_at_place : Profile → ℕ × ℕ → Fraction
+mean_at_place profile at = mean (strategy_of profile at.0) at.1
+
+-- what the player's terms in the others' variables alone sum up to at the others' means
+abbrev pub rest : PlayerOf → Profile → Fraction
+rest player profile = rest_at player (mean_at_place profile)
 
 -- the sum over the player's variables of slope times value
 abbrev pub along_slope : PlayerOf → Profile → (ℕ → Fraction) → Fraction

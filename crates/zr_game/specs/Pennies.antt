@@ -9,11 +9,12 @@ use Rattle.zr_game.specs.Profiles.{Strategy}
 abbrev pub penny_player : ℤ → CrossTerm → PlayerOf
 penny_player number term = record {
   name = [];
-  vars = record { name = []; whole = true; up = Some (pos 1) } ∷ [];
+  vars = record { name = []; whole = true; low = Some (pos 0); up = Some (pos 1) } ∷ [];
   rows = [];
   pairs = [];
   cost = (0, number) ∷ [];
   cross = term ∷ [];
+  others = [];
 }
 
 -- A's cost is `-2x + 4xy`, and B's `2y - 4xy`

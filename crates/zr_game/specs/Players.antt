@@ -5,16 +5,18 @@ use Rattle.zr_base.specs.Rows.{RowOf, row_of}
 use Rattle.zr_game.specs.declared.player.Var.{Var}
 use Rattle.zr_game.specs.declared.player.Pair.{Pair}
 use Rattle.zr_game.specs.declared.player.CrossTerm.{CrossTerm}
+use Rattle.zr_game.specs.declared.player.Other.{Other}
 use Rattle.zr_game.specs.declared.player.Player.{Player}
 
 -- the bytes of a name
 abbrev pub Name : Type 0
 Name = List ℕ
 
--- a variable that is at least 0: whether it is whole, and its upper bound, if it has one
+-- a variable: whether it is whole, and its lower and its upper bound, where it has them
 pub record VarOf : Type 0 where
   pub name : Name
   pub whole : Bool
+  pub low : Option ℤ
   pub up : Option ℤ
 
 -- a complementarity pair: `0 <= var`, `coef * x + add >= 0`, and one of the two is 0
@@ -23,7 +25,8 @@ pub record PairOf : Type 0 where
   pub coef : Terms
   pub add : ℤ
 
--- a player's variables, rows, pairs and costs
+-- a player's variables, rows, pairs and costs: the terms of its own variables, those with another player's, and those in
+-- the others' variables alone
 pub record PlayerOf : Type 0 where
   pub name : Name
   pub vars : List VarOf
@@ -31,13 +34,14 @@ pub record PlayerOf : Type 0 where
   pub pairs : List PairOf
   pub cost : Terms
   pub cross : List CrossTerm
+  pub others : List Other
 
 -- a game is the list of its players
 abbrev pub GameOf : Type 0
 GameOf = List PlayerOf
 
 abbrev pub var_of : Var → VarOf
-var_of v = record { name = string_bytes v.name; whole = v.whole; up = v.up }
+var_of v = record { name = string_bytes v.name; whole = v.whole; low = v.low; up = v.up }
 
 abbrev pub pair_of : Pair → PairOf
 pair_of p = record { var = p.var; coef = p.coef.items; add = p.add }
@@ -50,6 +54,7 @@ player_of p = record {
   pairs = map pair_of p.pairs.items;
   cost = p.cost.items;
   cross = p.cross.items;
+  others = p.others.items;
 }
 
 abbrev pub players_of : List Player → GameOf

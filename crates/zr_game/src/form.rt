@@ -1,12 +1,14 @@
 ghost use Rattle.std.specs.Prelude.{◌≡◌, ◌≢◌, ◌↔◌, ◌<◌, ◌≤◌, ℕ, IsTrue, length, map};
 ghost use Rattle.std.specs.List.{All, AllPairs};
+ghost use Rattle.std.specs.Option.{ForSome};
 ghost use Rattle.std.specs.declared.cmp.Ordering.TheVariants.{Less};
 ghost use Rattle.zr_base.specs.Rows.{row_of};
 ghost use Rattle.zr_game.specs.Players.{PlayerOf, pair_of, player_of, players_of, var_of};
 ghost use Rattle.zr_game.specs.Counts.{AreCounts};
-ghost use Rattle.zr_game.specs.Forms.{AreTerms, HasVar, IsCoefficient, IsCrossForm, IsGame, IsNumber, IsPairForm, IsPlayer, IsPlayerForm, IsRowForm, IsVarForm, cross_order};
+ghost use Rattle.zr_game.specs.Forms.{AreTerms, HasVar, IsCoefficient, IsCrossForm, IsFromZero, IsGame, IsNumber, IsOrdered, IsOtherForm, IsOthersVar, IsPairForm, IsPlayer, IsPlayerForm, IsRowForm, IsVarForm, cross_order, other_order, place_order};
 
-use crate::player::{CrossTerm, Pair, Player, Var};
+use crate::player::{CrossTerm, Other, Pair, Player, Var};
+use std::cmp::Ordering;
 use zr_base::Row;
 
 /// The greatest size of a number in a game.
@@ -44,6 +46,9 @@ fn is_player(player: &Player, i: usize, players: &[Player]) -> bool
         & are_terms(player.cost.as_slice(), columns)
         & are_cross_terms(&player.cross, i, columns, players)
         & ascend(&player.cross)
+        & are_from_zero(&player.pairs, &player.vars)
+        & are_others(&player.others, i, players)
+        & others_ascend(&player.others)
 }
 
 fn are_counts(player: &Player) -> bool
@@ -54,6 +59,7 @@ fn are_counts(player: &Player) -> bool
         && player.rows.len() <= 256
         && player.pairs.len() <= 32
         && player.cross.len() <= 65536
+        && player.others.len() <= 65536
 }
 
 fn are_vars(vars: &[Var]) -> bool
@@ -69,9 +75,25 @@ fn are_vars(vars: &[Var]) -> bool
 fn is_var(var: &Var) -> bool
     ensures { IsTrue result ↔ IsVarForm (var_of var.now) }
 {
-    match var.up {
+    is_bound(var.low) && is_bound(var.up) && is_ordered(var.low, var.up)
+}
+
+fn is_bound(bound: Option<i64>) -> bool
+    ensures { IsTrue result ↔ ForSome bound IsNumber }
+{
+    match bound {
         None => true,
-        Some(up) => 0 <= up && up <= NUMBER_LIMIT,
+        Some(z) => is_number(z),
+    }
+}
+
+/// Whether the first bound isn't above the second.
+fn is_ordered(low: Option<i64>, up: Option<i64>) -> bool
+    ensures { IsTrue result ↔ IsOrdered low up }
+{
+    match (low, up) {
+        (Some(low), Some(up)) => low <= up,
+        _ => true,
     }
 }
 
@@ -163,6 +185,85 @@ fn has_var(players: &[Player], k: usize, v: usize) -> bool
     ensures { IsTrue result ↔ ((k < length (players_of players.now)) × HasVar (players_of players.now) k v) }
 {
     k < players.len() && v < players[k].vars.len()
+}
+
+/// Whether the variable of each pair has the lower bound 0.
+fn are_from_zero(pairs: &[Pair], vars: &[Var]) -> bool
+    ensures { IsTrue result ↔ All (λ pair. IsFromZero (map var_of vars.now) pair.var) (map pair_of pairs.now) }
+{
+    let mut all = true;
+    for pair in pairs {
+        all &= is_from_zero(vars, pair.var as usize);
+    }
+    all
+}
+
+fn is_from_zero(vars: &[Var], v: usize) -> bool
+    ensures { IsTrue result ↔ IsFromZero (map var_of vars.now) v }
+{
+    v >= vars.len() || vars[v].low == Some(0)
+}
+
+fn are_others(others: &[Other], i: usize, players: &[Player]) -> bool
+    ensures { IsTrue result ↔ All (IsOtherForm (players_of players.now) i) others.now }
+{
+    let mut all = true;
+    for t in others {
+        all &= is_other(t, i, players);
+    }
+    all
+}
+
+fn is_other(t: &Other, i: usize, players: &[Player]) -> bool
+    ensures { IsTrue result ↔ IsOtherForm (players_of players.now) i t.now }
+{
+    is_others_var(t.first, i, players) && is_second(t.first, t.second, i, players) && is_coefficient(t.coef)
+}
+
+/// Whether the second variable, where there is one, is that of a later player than the first.
+fn is_second(first: (u32, u32), second: Option<(u32, u32)>, i: usize, players: &[Player]) -> bool
+    ensures { IsTrue result ↔ ForSome second (λ at. (first.0 < at.0) × IsOthersVar (players_of players.now) i at) }
+{
+    match second {
+        None => true,
+        Some(at) => first.0 < at.0 && is_others_var(at, i, players),
+    }
+}
+
+/// Whether there is such a variable, of another player than `i`.
+fn is_others_var(at: (u32, u32), i: usize, players: &[Player]) -> bool
+    ensures { IsTrue result ↔ IsOthersVar (players_of players.now) i at }
+{
+    at.0 as usize != i && has_var(players, at.0 as usize, at.1 as usize)
+}
+
+/// Whether the others' terms stand in their order.
+fn others_ascend(others: &[Other]) -> bool
+    ensures { IsTrue result ↔ AllPairs (λ s t. other_order s t ≡ Less) others.now }
+{
+    let mut all = true;
+    for k in 1..others.len() {
+        all &= is_other_before(&others[k - 1], &others[k]);
+    }
+    all
+}
+
+fn is_other_before(s: &Other, t: &Other) -> bool
+    ensures { IsTrue result ↔ (other_order s.now t.now ≡ Less) }
+{
+    let order = place_order(s.first, t.first);
+    match (s.second, t.second) {
+        (None, None) => order.is_lt(),
+        (None, Some(_)) => true,
+        (Some(_), None) => false,
+        (Some(a), Some(b)) => order.then(place_order(a, b)).is_lt(),
+    }
+}
+
+fn place_order(a: (u32, u32), b: (u32, u32)) -> Ordering
+    ensures { result ≡ place_order a b }
+{
+    a.0.cmp(&b.0).then(a.1.cmp(&b.1))
 }
 
 /// Whether cross terms stand in their order.

@@ -19,10 +19,12 @@ impl Game {
     /// The game of these players.
     ///
     /// Hands the list back exactly where the players break a rule of games: there are 1 to 16
-    /// players; each has 1 to 64 variables, at most 256 rows, 32 pairs and 65,536 cross terms;
-    /// numbers are within ±1,000,000,000, upper bounds from 0; terms stand in the order of their
-    /// variables, which exist, and cross terms in the order of own variable, player and variable,
-    /// which exist, with another player; and no number of a term is 0.
+    /// players; each has 1 to 64 variables, at most 256 rows, 32 pairs, 65,536 cross terms and
+    /// 65,536 terms in the others' variables; numbers are within ±1,000,000,000, and no upper bound
+    /// is below the lower one; terms stand in the order of their variables, which exist, and cross
+    /// terms in the order of own variable, player and variable, which exist, with another player;
+    /// the others' terms stand in their order, and name variables of other players, a product those
+    /// of two; the variable of a pair has the lower bound 0; and no number of a term is 0.
     pub fn new(players: Vec<Player>) -> Result<Game, Vec<Player>>
         ensures valid { IsOk result ↔ IsGame (players_of players.items) }
         ensures ok { IfOk result (λ game. game.players.items ≡ players.items) }

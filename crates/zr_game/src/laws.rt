@@ -1,5 +1,5 @@
-ghost use Rattle.std.specs.Prelude.{◌≡◌, ◌↔◌, ℕ, List, [], ◌∷◌, pos, ◌<ℤ◌, slice_set};
-ghost use Rattle.zr_base.specs.Fractions.{IsSame};
+ghost use Rattle.std.specs.Prelude.{◌≡◌, ◌↔◌, ℕ, List, [], ◌∷◌, pos, ◌<ℤ◌, length, slice_set};
+ghost use Rattle.zr_base.specs.Fractions.{IsSame, plus};
 ghost use Rattle.zr_base.specs.Points.{IsSamePoint, PointOf, value_of};
 ghost use Rattle.zr_game.specs.Players.{GameOf, PlayerOf};
 ghost use Rattle.zr_game.specs.Forms.{IsGame, IsPlayer};
@@ -7,8 +7,9 @@ ghost use Rattle.zr_game.specs.Feasible.{IsFeasible};
 ghost use Rattle.zr_game.specs.Costs.{cost_of, point_of};
 ghost use Rattle.zr_game.specs.Profiles.{IsOfKind, IsProfile, Profile, deviation, expected_cost, strategy_of};
 ghost use Rattle.zr_game.specs.PureProfiles.{IsStableAt, points_of};
-ghost use Rattle.zr_game.specs.Equilibria.{HasNone, IsEquilibrium};
-ghost use Rattle.zr_game.specs.Means.{IsBestAlongSlope, along_slope, mean};
+ghost use Rattle.zr_game.specs.Equilibria.{HasNoEquilibrium, IsEquilibrium};
+ghost use Rattle.zr_game.specs.Means.{IsBestAlongSlope, along_slope, mean, rest};
+ghost use Rattle.zr_game.specs.Rays.{Direction, IsRay, IsRelaxedRay, StaysFeasible};
 ghost use Rattle.zr_game.specs.Pennies.{half_half, pennies};
 ghost use Rattle.zr_game.specs.declared.kind.Kind.TheVariants.{Pure};
 
@@ -39,16 +40,19 @@ pub fn law_of_pure_equilibria()
         → (IsEquilibrium game profile ↔ IsStableAt game (points_of profile)) }
 {}
 
-/// An expected cost is the sum of slope times mean.
+/// An expected cost is the sum of slope times mean, plus the player's terms in the others' variables
+/// alone at the others' means.
 pub fn law_of_means()
     ensures { (game : GameOf) → IsGame game → (profile : Profile) → IsProfile game profile → (i : ℕ) (player : PlayerOf) → IsPlayer game i player
-        → IsSame (expected_cost player i profile) (along_slope player profile (mean (strategy_of profile i))) }
+        → IsSame (expected_cost player i profile)
+        (plus (along_slope player profile (mean (strategy_of profile i))) (rest player profile)) }
 {}
 
-/// A deviation costs the sum of slope times value.
+/// A deviation costs the sum of slope times value, plus the same.
 pub fn law_of_deviations()
     ensures { (game : GameOf) → IsGame game → (profile : Profile) → IsProfile game profile → (i : ℕ) (player : PlayerOf) → IsPlayer game i player → (x : PointOf) → IsFeasible player x
-        → IsSame (expected_cost player i (deviation profile i x)) (along_slope player profile (value_of x)) }
+        → IsSame (expected_cost player i (deviation profile i x))
+        (plus (along_slope player profile (value_of x)) (rest player profile)) }
 {}
 
 /// A profile is an equilibrium exactly where no feasible point is below a player's mean along its
@@ -61,5 +65,18 @@ pub fn law_of_equilibria()
 /// Matching pennies: playing 0 and 1 alike is an equilibrium, and no pure profile is one.
 pub fn law_of_pennies()
     ensures halves { IsEquilibrium pennies (half_half ∷ half_half ∷ []) }
-    ensures pure { HasNone pennies Pure }
+    ensures pure { HasNoEquilibrium pennies Pure }
+{}
+
+/// A direction is a ray at a base exactly where each whole multiple of it leads from the base to a
+/// feasible point.
+pub fn law_of_rays()
+    ensures { (player : PlayerOf) (base : PointOf) (dir : Direction) → length base.num ≡ length player.vars → length dir ≡ length player.vars
+        → (IsRay player base dir ↔ StaysFeasible player base dir) }
+{}
+
+/// A ray is one of the relaxation.
+pub fn law_of_relaxed_rays()
+    ensures { (game : GameOf) → IsGame game → (i : ℕ) (player : PlayerOf) → IsPlayer game i player
+        → (base : PointOf) (dir : Direction) → IsRay player base dir → IsRelaxedRay player dir }
 {}

@@ -1,4 +1,4 @@
-ghost use Rattle.std.specs.Prelude.{◌≡◌, ◌↔◌, ◌<◌, ℕ, pos, None, Some, true, IsTrue, IfOk, length, map, replicate, slice_get, slice_index_or};
+ghost use Rattle.std.specs.Prelude.{◌≡◌, ◌↔◌, ◌<◌, ℕ, ℤ, None, Some, true, IsTrue, IfOk, length, map, replicate, slice_get, slice_index_or};
 ghost use Rattle.zr_game.specs.Players.{PlayerOf, VarOf, var_of};
 ghost use Rattle.zr_game.specs.Games.{game_of};
 ghost use Rattle.zr_game.specs.Forms.{IsPlayer};
@@ -19,25 +19,27 @@ pub enum Side {
     RowZero,
 }
 
-/// A branch of a player's points: a low and maybe a high bound for each variable, and a side for
-/// each pair.
+/// A branch of a player's points: for each variable a low and a high bound, where it has them, and
+/// a side for each pair.
 #[derive(Debug, Drop)]
 pub struct Leaf {
-    pub low: Vec<i64>,
+    pub low: Vec<Option<i64>>,
     pub high: Vec<Option<i64>>,
     pub sides: Vec<Side>,
 }
 
 impl Leaf {
-    /// The leaf of all points of player `i`, which is below the number of players: each low bound
-    /// is 0, each high bound is the variable's own, and every side is undecided.
+    /// The leaf of all points of player `i`, which is below the number of players: the bounds are
+    /// the variables' own, and every side is undecided.
     pub fn root(alloc: Global, game: &Game, i: u32) -> Result<Leaf, NoMemory>
         requires { i < length (game_of game.now) }
         ensures lengths { (player : PlayerOf) → IsPlayer (game_of game.now) i player → IfOk result (IsLeafOf player) }
         ensures root { (player : PlayerOf) → IsPlayer (game_of game.now) i player → IfOk result (λ leaf. leaf_of leaf ≡ root_leaf player) }
     {
         let player = &game.players[i as usize];
-        let low = zeros(alloc, player.vars.len())?;
+        let Ok(low) = lower_bounds(alloc, &player.vars) else {
+            return Err(NoMemory);
+        };
         let Ok(high) = upper_bounds(alloc, &player.vars) else {
             return Err(NoMemory);
         };
@@ -59,10 +61,10 @@ impl Leaf {
     }
 }
 
-fn zeros(alloc: Global, count: usize) -> Result<Vec<i64>, NoMemory>
-    ensures { IfOk result (λ low. low.items ≡ replicate count (pos 0)) }
+fn lower_bounds(alloc: Global, vars: &[Var]) -> Result<Vec<Option<i64>>, AllocError>
+    ensures { IfOk result (λ low. low.items ≡ map (λ var. var.low) vars.now) }
 {
-    vec![in alloc; 0; count].map_err(|_| NoMemory)
+    vars.iter().map(|var| var.low).collect(alloc)
 }
 
 fn undecided(alloc: Global, count: usize) -> Result<Vec<Side>, NoMemory>
@@ -78,10 +80,11 @@ fn upper_bounds(alloc: Global, vars: &[Var]) -> Result<Vec<Option<i64>>, AllocEr
 }
 
 /// Whether each whole variable has one value.
-fn are_fixed(vars: &[Var], low: &[i64], high: &[Option<i64>]) -> bool
+fn are_fixed(vars: &[Var], low: &[Option<i64>], high: &[Option<i64>]) -> bool
     requires lows { length low.now ≡ length vars.now }
     requires highs { length high.now ≡ length vars.now }
-    ensures { IsTrue result ↔ ((v : ℕ) (var : VarOf) → slice_get (map var_of vars.now) v ≡ Some var → var.whole ≡ true → slice_index_or high.now v None ≡ Some (slice_index_or low.now v (pos 0))) }
+    ensures { IsTrue result ↔ ((v : ℕ) (var : VarOf) → slice_get (map var_of vars.now) v ≡ Some var → var.whole ≡ true
+        → (value : ℤ) × (slice_index_or low.now v None ≡ Some value) × (slice_index_or high.now v None ≡ Some value)) }
 {
     let mut all = true;
     for (v, var) in vars.iter().enumerate() {
@@ -90,10 +93,10 @@ fn are_fixed(vars: &[Var], low: &[i64], high: &[Option<i64>]) -> bool
     all
 }
 
-fn is_fixed(var: &Var, low: i64, high: Option<i64>) -> bool
-    ensures { IsTrue result ↔ (var.now.whole ≡ true → high ≡ Some low) }
+fn is_fixed(var: &Var, low: Option<i64>, high: Option<i64>) -> bool
+    ensures { IsTrue result ↔ (var.now.whole ≡ true → (value : ℤ) × (low ≡ Some value) × (high ≡ Some value)) }
 {
-    !var.whole || high == Some(low)
+    !var.whole || low.is_some() && low == high
 }
 
 /// Whether no side is undecided.

@@ -1,13 +1,15 @@
 use smallvec::SmallVec;
 use zr_base::Row;
 
-/// A variable that is at least 0.
+/// A variable. Its bounds are within ±1,000,000,000, and the upper one isn't below the lower one.
 #[derive(Debug, Drop)]
 pub struct Var {
     pub name: String,
     /// Whether only whole values are allowed.
     pub whole: bool,
-    /// The upper bound, from 0 to 1,000,000,000, if there is one.
+    /// The lower bound, if there is one.
+    pub low: Option<i64>,
+    /// The upper bound, if there is one.
     pub up: Option<i64>,
 }
 
@@ -28,11 +30,24 @@ pub struct CrossTerm {
     pub coef: i64,
 }
 
-/// A player: it minimises `cost * x` and its cross terms over the points that keep the bounds of
-/// its variables, its rows and its pairs.
+/// The cost `coef` times a variable of another player, or times the variables of two other players.
 ///
-/// A player has 1 to 64 variables, at most 256 rows, 32 pairs and 65,536 cross terms, which stand
-/// in the order of own variable, player and variable.
+/// A variable is named by its player and its number. Of two players the lower one is the first.
+#[derive(Clone, Copy, Debug, PartialEq, Eq)]
+pub struct Other {
+    pub first: (u32, u32),
+    pub second: Option<(u32, u32)>,
+    pub coef: i64,
+}
+
+/// A player: it minimises `cost * x`, its cross terms and its terms in the others' variables alone
+/// over the points that keep the bounds of its variables, its rows and its pairs.
+///
+/// A player has 1 to 64 variables, at most 256 rows, 32 pairs, 65,536 cross terms and 65,536 terms
+/// in the others' variables. Cross terms stand in the order of own variable, player and variable;
+/// of the others' terms those in one variable come first, in the order of player and variable, and
+/// then those in two, in the order of the first and the second. The variable of a pair has the
+/// lower bound 0.
 #[derive(Debug, Drop)]
 pub struct Player {
     pub name: String,
@@ -41,4 +56,5 @@ pub struct Player {
     pub pairs: Vec<Pair>,
     pub cost: SmallVec<(u32, i64), 8>,
     pub cross: Vec<CrossTerm>,
+    pub others: Vec<Other>,
 }

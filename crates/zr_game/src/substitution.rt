@@ -8,7 +8,7 @@ ghost use Rattle.zr_game.specs.Players.{PlayerOf, pair_of, player_of, var_of};
 ghost use Rattle.zr_game.specs.Games.{game_of};
 ghost use Rattle.zr_game.specs.Forms.{IsPairForm, IsPlayer, IsRowForm};
 ghost use Rattle.zr_game.specs.Feasible.{AreWithin, IsFeasible, IsMultiple, IsWithin, PairHolds};
-ghost use Rattle.zr_game.specs.FeasibleSteps.{bound_wide, feasible_wide, pair_wide, row_wide};
+ghost use Rattle.zr_game.specs.FeasibleSteps.{bound_wide, feasible_wide, pair_wide, row_wide, var_wide};
 
 use crate::game::Game;
 use crate::player::{Pair, Player, Var};
@@ -17,7 +17,7 @@ use zr_base::{Point, Row, Wide, add_product, cross, sum_at};
 /// Whether the point is one of player `i`, which is below the number of players.
 ///
 /// A point of another length than the player's variables is none of its points. Else the bounds of
-/// all variables are made, then all rows and then all pairs; the answer is the first step of these
+/// all variables are made, the lower one first, then all rows and then all pairs; the answer is the first step of these
 /// that is too wide, where there is one.
 pub fn feasible(game: &Game, i: u32, point: &Point) -> Result<bool, Wide>
     requires { i < length (game_of game.now) }
@@ -46,7 +46,7 @@ fn is_feasible(player: &Player, point: &Point) -> Result<bool, Wide>
 
 fn bounds_hold(vars: &[Var], point: &Point) -> Result<bool, Wide>
     requires { length vars.now ≡ length point.now.num }
-    ensures { Tells result (AreWithin (map var_of vars.now) point.now) (first_wide (λ var. bound_wide point.now.den var.up) (map var_of vars.now)) }
+    ensures { Tells result (AreWithin (map var_of vars.now) point.now) (first_wide (var_wide point.now.den) (map var_of vars.now)) }
 {
     let mut all = true;
     for (v, var) in vars.iter().enumerate() {
@@ -89,11 +89,11 @@ fn pair_holds(pair: &Pair, point: &Point) -> Result<bool, Wide>
     ensures { Tells result (PairHolds point.now (pair_of pair.now)) (pair_wide point.now (pair_of pair.now)) }
 {
     let slack = slack_at(pair, point)?;
-    Ok(is_settled(point.num(pair.var as usize), slack))
+    Ok(is_complementary(point.num(pair.var as usize), slack))
 }
 
 /// The sum of a pair's terms at a point's numerators, and then its number times the denominator.
-fn slack_at(pair: &Pair, point: &Point) -> Result<i128, Wide>
+pub(crate) fn slack_at(pair: &Pair, point: &Point) -> Result<i128, Wide>
     requires { IsPairForm (length point.now.num) (pair_of pair.now) }
     ensures { result ≡ sum_steps (pos 0) (products pair.now.coef.items point.now.num ++ (pair.now.add, point.now.den) ∷ []) }
 {
@@ -101,19 +101,30 @@ fn slack_at(pair: &Pair, point: &Point) -> Result<i128, Wide>
     add_product(terms, i128::from(pair.add), point.den())
 }
 
-fn is_settled(num: i128, slack: i128) -> bool
-    ensures { IsTrue result ↔ ((pos 0 ≤ℤ slack) × ((num ≡ pos 0) ⊎ (slack ≡ pos 0))) }
+/// Whether both numbers are at least 0, and one of them is 0.
+fn is_complementary(num: i128, slack: i128) -> bool
+    ensures { IsTrue result ↔ ((pos 0 ≤ℤ num) × (pos 0 ≤ℤ slack) × ((num ≡ pos 0) ⊎ (slack ≡ pos 0))) }
 {
-    slack >= 0 && (num == 0 || slack == 0)
+    num >= 0 && slack >= 0 && (num == 0 || slack == 0)
 }
 
 /// Whether a value `num / den` of a variable is within its bounds.
 fn is_within(var: &Var, num: i128, den: i128) -> Result<bool, Wide>
     requires { pos 0 <ℤ den }
-    ensures { Tells result (IsWithin (var_of var.now) num den) (bound_wide den var.now.up) }
+    ensures { Tells result (IsWithin (var_of var.now) num den) (var_wide den (var_of var.now)) }
 {
+    let above = is_above(num, var.low, den)?;
     let below = is_below(num, var.up, den)?;
-    Ok(num >= 0 && below && (!var.whole || is_multiple(num, den)))
+    Ok(above && below && (!var.whole || is_multiple(num, den)))
+}
+
+fn is_above(num: i128, low: Option<i64>, den: i128) -> Result<bool, Wide>
+    ensures { Tells result (IfSome low (λ low. (low *ℤ den) ≤ℤ num)) (bound_wide den low) }
+{
+    match low {
+        None => Ok(true),
+        Some(low) => Ok(product(low, den)? <= num),
+    }
 }
 
 fn is_below(num: i128, up: Option<i64>, den: i128) -> Result<bool, Wide>
@@ -125,10 +136,10 @@ fn is_below(num: i128, up: Option<i64>, den: i128) -> Result<bool, Wide>
     }
 }
 
-fn product(up: i64, den: i128) -> Result<i128, Wide>
-    ensures { result ≡ cross_of (up, den) (pos 0, pos 0) }
+fn product(bound: i64, den: i128) -> Result<i128, Wide>
+    ensures { result ≡ cross_of (bound, den) (pos 0, pos 0) }
 {
-    cross((i128::from(up), den), (0, 0))
+    cross((i128::from(bound), den), (0, 0))
 }
 
 fn is_multiple(num: i128, den: i128) -> bool

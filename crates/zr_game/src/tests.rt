@@ -44,6 +44,7 @@ fn packer(
                 coef: shared[1]
             },
         ]?,
+        others: Vec::new(alloc),
     })
 }
 

@@ -10,7 +10,7 @@ mod search;
 
 ghost use Rattle.std.specs.Prelude.{IfOk, IfSome, IfNone};
 ghost use Rattle.zr_game.specs.Games.{game_of};
-ghost use Rattle.zr_game.specs.Equilibria.{HasNone};
+ghost use Rattle.zr_game.specs.Equilibria.{HasNoEquilibrium};
 ghost use Rattle.zr_game.specs.declared.kind.Kind.TheVariants.{Pure};
 ghost use Rattle.zr_trial.specs.Reach.{IsWithinReach};
 ghost use Rattle.zr_trial.specs.First.{IsFirstEquilibrium};
@@ -28,7 +28,7 @@ use zr_game::Game;
 pub fn first_equilibrium(alloc: Global, game: &Game) -> Result<Option<Vec<Point>>, NoMemory>
     requires { IsWithinReach (game_of game.now) }
     ensures found { IfOk result (λ o. IfSome o (λ points. IsFirstEquilibrium (game_of game.now) points.items)) }
-    ensures none { IfOk result (λ o. IfNone o (HasNone (game_of game.now) Pure)) }
+    ensures none { IfOk result (λ o. IfNone o (HasNoEquilibrium (game_of game.now) Pure)) }
 {
     search::first_by_trial(alloc, game).map_err(|_| NoMemory)
 }

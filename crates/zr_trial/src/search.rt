@@ -2,7 +2,7 @@
 ghost use Rattle.std.specs.Prelude.{◌≡◌, ℕ, ◌<◌, ◌≤◌, ◌+◌, ◌*◌, ◌↔◌, length, IfNone, IfOk, IfSome, IsTrue};
 ghost use Rattle.std.specs.List.{All};
 ghost use Rattle.zr_game.specs.Games.{game_of};
-ghost use Rattle.zr_game.specs.Equilibria.{HasNone};
+ghost use Rattle.zr_game.specs.Equilibria.{HasNoEquilibrium};
 ghost use Rattle.zr_game.specs.declared.kind.Kind.TheVariants.{Pure};
 ghost use Rattle.zr_trial.specs.Reach.{IsWithinReach};
 ghost use Rattle.zr_trial.specs.First.{IsFirstEquilibrium};
@@ -22,7 +22,7 @@ use zr_game::Game;
 pub fn first_by_trial(alloc: Global, game: &Game) -> Result<Option<Vec<Point>>, AllocError>
     requires { IsWithinReach (game_of game.now) }
     ensures found { IfOk result (λ o. IfSome o (λ points. IsFirstEquilibrium (game_of game.now) points.items)) }
-    ensures none { IfOk result (λ o. IfNone o (HasNone (game_of game.now) Pure)) }
+    ensures none { IfOk result (λ o. IfNone o (HasNoEquilibrium (game_of game.now) Pure)) }
 {
     let lists = all_choices(alloc, game)?;
     let counts = counts_of(alloc, &lists)?;
@@ -44,7 +44,7 @@ fn first_tuple(
     requires counts { counts.now ≡ lengths (lists_of lists.now) }
     requires some { All (λ count. 0 < count) counts.now }
     ensures found { IfOk result (λ o. IfSome o (λ points. IsFirstEquilibrium (game_of game.now) points.items)) }
-    ensures none { IfOk result (λ o. IfNone o (HasNone (game_of game.now) Pure)) }
+    ensures none { IfOk result (λ o. IfNone o (HasNoEquilibrium (game_of game.now) Pure)) }
 {
     let numbering = Numbering::new(alloc, counts)?;
     let table = fill(alloc, game, lists, &numbering.strides, numbering.total)?;
