@@ -14,3 +14,7 @@ pub mod Reduced
 pub mod Lowest
 pub mod Wholes
 pub mod RowLaws
+pub mod SameLaws
+pub mod Lcm
+pub mod Made
+pub mod Members

@@ -4,7 +4,7 @@ use Rattle.std.proofs.Math.Nat.{mod-eq-zero_of_dvd, dvd-mul_left, dvd-mul_right,
 use Rattle.std.proofs.lemmas.Int.{ints, unsigned_abs-mul}
 use Rattle.std.proofs.lemmas.Nat.Gcd.{dvd_antisymm}
 use Rattle.std.specs.Int.{IsGcd, ◌∣◌}
-use Rattle.zr_base.specs.Fractions.{Fraction, IsSame}
+use Rattle.zr_base.specs.Fractions.{Fraction, HaveSameCross}
 use Rattle.zr_base.specs.Lowest.{IsLowest, gcd_of}
 use Rattle.zr_base.proofs.Divisors.{cancel, nonneg_abs}
 use Rattle.zr_base.proofs.Gcds.{gcd_of_is}
@@ -25,13 +25,14 @@ divides_other a b c positive coprime h =
     let same : g ≡ c = sym e ∙ ap (λ n. n * c) one ∙ one-mul c in
     subst (λ n. b ∣ n) same (is.2 b h (dvd-mul_right b c))
 
-divides : (f g : Fraction) → (pos 0) <ℤ g.den → IsGcd (unsigned_abs f.num) (unsigned_abs f.den) 1 → f.num *ℤ g.den ≡ g.num *ℤ f.den → unsigned_abs f.den ∣ unsigned_abs g.den
+-- the lowest denominator of a value divides its others
+pub divides : (f g : Fraction) → (pos 0) <ℤ g.den → IsGcd (unsigned_abs f.num) (unsigned_abs f.den) 1 → f.num *ℤ g.den ≡ g.num *ℤ f.den → unsigned_abs f.den ∣ unsigned_abs g.den
 divides f g positive coprime e =
     let least : 0 < unsigned_abs g.den = omega (arith, ints, positive) in
     let s = sym (unsigned_abs-mul g.num f.den) ∙ ap unsigned_abs (sym e) ∙ unsigned_abs-mul f.num g.den in
     divides_other (unsigned_abs f.num) (unsigned_abs f.den) (unsigned_abs g.den) least coprime (subst (λ n. unsigned_abs f.den ∣ n) s (dvd-mul_left (unsigned_abs f.den) (unsigned_abs g.num)))
 
-pub lowest_same : (f g : Fraction) → IsLowest f → IsLowest g → IsSame f g → f ≡ g
+pub lowest_same : (f g : Fraction) → IsLowest f → IsLowest g → HaveSameCross f g → f ≡ g
 lowest_same f g p q e =
     let a = divides f g q.ratio.positive p.coprime e in
     let b = divides g f p.ratio.positive q.coprime (sym e) in

@@ -4,7 +4,7 @@ use Rattle.std.proofs.Math.Nat.{pos_of_dvd_of_pos}
 use Rattle.std.proofs.lemmas.Int.{ints}
 use Rattle.zr_base.specs.declared.step.Wide.{Wide}
 use Rattle.zr_base.specs.Steps.{cross_of, ◌>>=◌}
-use Rattle.zr_base.specs.Fractions.{Fraction, IsSame, negated, plus, minus, times}
+use Rattle.zr_base.specs.Fractions.{Fraction, HaveSameCross, IsSame, negated, plus, minus, times}
 use Rattle.zr_base.specs.Lowest.{IsRatio, IsLowest, gcd_of, reduce, add_of, sub_of, mul_of, reciprocal, div_of}
 use Rattle.zr_base.proofs.Ring.{spread, neg-mul_left, neg-mul_right}
 use Rattle.zr_base.proofs.CrossLaws.{cross_ok, then_ok}
@@ -46,7 +46,7 @@ module _ (num den : ℤ) (positive : (pos 0) <ℤ den) where
     den_is = den_back;
   }
 
-  pub reduce_same : IsSame (reduce num den) (record { num = num; den = den })
+  pub reduce_same : HaveSameCross (reduce num den) (record { num = num; den = den })
   reduce_same =
       let s = reduce_shared in
       multiples (reduce num den).num (reduce num den).den s.by num den s.num_is s.den_is
@@ -64,7 +64,7 @@ reduce_is num den shared n d s e f = rw (e, f, s) refl
 -- what was made is in lowest terms, and has a value
 pub record IsExact (f value : Fraction) : Type 0 where
   pub lowest : IsLowest f
-  pub same : IsSame f value
+  pub same : HaveSameCross f value
 
 -- of fractions with denominators above zero
 pub add_of_exact : (a b f : Fraction) → (pos 0) <ℤ a.den → (pos 0) <ℤ b.den → add_of a b ≡ Ok f → IsExact f (plus a b)
@@ -160,7 +160,7 @@ quotient_exact an ad bn bd rn rd fn fd p back e =
     let t = simp spread at (ap (λ x. (an *ℤ fd) *ℤ x) back) in
     cancel ((fn *ℤ bn) *ℤ ad) (an *ℤ (fd *ℤ bd)) rd p (simp spread (omega (arith, ints)))
 
-pub div_of_exact : (a b f : Fraction) → (pos 0) <ℤ a.den → (pos 0) <ℤ b.den → b.num ≢ pos 0 → div_of a b ≡ Ok f → IsLowest f × IsSame (times f b) a
+pub div_of_exact : (a b f : Fraction) → (pos 0) <ℤ a.den → (pos 0) <ℤ b.den → b.num ≢ pos 0 → div_of a b ≡ Ok f → IsLowest f × HaveSameCross (times f b) a
 unfolding div_of
 div_of_exact a b f p q n e =
     let r = reciprocal_is b n in
@@ -218,20 +218,32 @@ ratio_made x p q n m above below e f =
     }
 
 module _ (a b : Fraction) (above : (pos 0) <ℤ a.den) (below : (pos 0) <ℤ b.den) where
+  both : (pos 0) <ℤ (a.den *ℤ b.den)
+  both = mul_positive a.den b.den above below
+
   pub sum_if : (r : Result Fraction Wide) → r ≡ add_of a b → IfOk r (λ f. IsSame f (plus a b))
-  sum_if (Ok f) e = (add_of_exact a b f above below (sym e)).same
+  sum_if (Ok f) e =
+      let x = add_of_exact a b f above below (sym e) in
+      record { left = x.lowest.ratio.positive; right = both; cross = x.same }
   sum_if (Err w) e = search rules
 
   pub difference_if : (r : Result Fraction Wide) → r ≡ sub_of a b → IfOk r (λ f. IsSame f (minus a b))
-  difference_if (Ok f) e = (sub_of_exact a b f above below (sym e)).same
+  difference_if (Ok f) e =
+      let x = sub_of_exact a b f above below (sym e) in
+      record { left = x.lowest.ratio.positive; right = both; cross = x.same }
   difference_if (Err w) e = search rules
 
   pub product_if : (r : Result Fraction Wide) → r ≡ mul_of a b → IfOk r (λ f. IsSame f (times a b))
-  product_if (Ok f) e = (mul_of_exact a b f above below (sym e)).same
+  product_if (Ok f) e =
+      let x = mul_of_exact a b f above below (sym e) in
+      record { left = x.lowest.ratio.positive; right = both; cross = x.same }
   product_if (Err w) e = search rules
 
   pub quotient_if : b.num ≢ pos 0 → (r : Result Fraction Wide) → r ≡ div_of a b → IfOk r (λ f. IsSame (times f b) a)
-  quotient_if h (Ok f) e = (div_of_exact a b f above below h (sym e)).1
+  quotient_if h (Ok f) e =
+      let x = div_of_exact a b f above below h (sym e) in
+      let den = mul_positive f.den b.den x.0.ratio.positive below in
+      record { left = den; right = above; cross = x.1 }
   quotient_if h (Err w) e = search rules
 
 pub sub_of_by : (an ad bn bd : ℤ) → add_of (record { num = an; den = ad }) (record { num = pos 0 -ℤ bn; den = bd }) ≡ sub_of (record { num = an; den = ad }) (record { num = bn; den = bd })

@@ -8,6 +8,7 @@ use Rattle.zr_base.specs.Points.{PointOf, IsSamePoint, num_of}
 use Rattle.zr_base.specs.Rows.{RowOf, RowHolds, products}
 use Rattle.zr_base.proofs.Ring.{spread, mul_assoc}
 use Rattle.zr_base.proofs.Worth.{le_times, le_of_times}
+use Rattle.zr_base.proofs.Divisors.{mul_positive}
 use Rattle.zr_base.proofs.Dense.{value_dense}
 
 pub products_value : (ts : Terms) (num : List ℤ) → sum_products (products ts num) ≡ value_at ts (λ j. slice_index_or num j (pos 0))
@@ -57,9 +58,10 @@ row_holds_dense x row columns ascends =
     let e = products_value row.coef x.num ∙ value_dense 0 columns row.coef (num_of x) ascends in
     (λ h. subst (λ z. z ≤ℤ (row.le *ℤ x.den)) e h, λ h. subst (λ z. z ≤ℤ (row.le *ℤ x.den)) (sym e) h)
 
-pub row_holds_same : (x y : PointOf) (row : RowOf) → (pos 0) <ℤ x.den → (pos 0) <ℤ y.den → IsSamePoint x y → RowHolds x row → RowHolds y row
-row_holds_same x y row above below same h =
-    (row_holds_value y row).1 ((bound_same row.coef row.le (num_of x) x.den (num_of y) y.den above below same.1).0 ((row_holds_value x row).0 h))
+pub row_holds_same : (x y : PointOf) (row : RowOf) → IsSamePoint x y → RowHolds x row → RowHolds y row
+row_holds_same x y row same h =
+    let moved = bound_same row.coef row.le (num_of x) x.den (num_of y) y.den same.left same.right same.values in
+    (row_holds_value y row).1 (moved.0 ((row_holds_value x row).0 h))
 
 -- all numbers of a point times e
 abbrev pub scaled : PointOf → ℤ → PointOf
@@ -73,9 +75,13 @@ num_of-scaled x e v = at x.num v
     at (x ∷ xs) zero = refl
     at (x ∷ xs) (suc v) = at xs v
 
-pub same_scaled : (x : PointOf) (e : ℤ) → IsSamePoint x (scaled x e)
-same_scaled x e =
-    (sym (length-map x.num (λ n. n *ℤ e)), λ v. moved (num_of x v) x.den e ∙ ap (λ z. z *ℤ x.den) (sym (num_of-scaled x e v)))
+pub same_scaled : (x : PointOf) (e : ℤ) → (pos 0) <ℤ x.den → (pos 0) <ℤ e → IsSamePoint x (scaled x e)
+same_scaled x e p q = record {
+  left = p;
+  right = mul_positive x.den e p q;
+  len = sym (length-map x.num (λ n. n *ℤ e));
+  values = λ v. moved (num_of x v) x.den e ∙ ap (λ z. z *ℤ x.den) (sym (num_of-scaled x e v));
+}
   where
     moved : (n d e : ℤ) → n *ℤ (d *ℤ e) ≡ (n *ℤ e) *ℤ d
     moved n d e = simp spread

@@ -1,7 +1,7 @@
 -- A fraction's value as a whole number over a denominator that several fractions share.
 use Rattle.std.proofs.Common.{◌≡◌, ℕ, zero, suc, ◌<◌, arith, sym, ap, ap₂, ◌∙◌, ℤ, pos, negsuc, ◌+ℤ◌, ◌*ℤ◌, ◌≤ℤ◌, ◌<ℤ◌, List, [], ◌∷◌}
 use Rattle.std.proofs.lemmas.Int.{ints}
-use Rattle.zr_base.specs.Fractions.{Fraction, whole, plus, times, over, IsSame, IsAtMost, sum_over, sum_below}
+use Rattle.zr_base.specs.Fractions.{Fraction, whole, plus, times, over, HaveSameCross, IsAtMost, sum_over, sum_below}
 use Rattle.zr_base.proofs.Ring.{spread, le-mul_right, le_of_mul_right}
 use Rattle.zr_base.proofs.Divisors.{cancel, same_value, mul_positive}
 use Rattle.zr_base.specs.Sums.{sum_to}
@@ -52,11 +52,11 @@ worth-rescale a b f n m positive e p =
     let t = simp spread at (ap (λ x. x *ℤ f.den) e) in
     record { below = p.below; equal = cancel (f.num *ℤ b) (m *ℤ f.den) a positive (simp spread (omega (arith, ints))) }
 
-pub worth-same : (d : ℤ) (f g : Fraction) (n : ℤ) → (pos 0) <ℤ d → Worth d f n → Worth d g n → IsSame f g
+pub worth-same : (d : ℤ) (f g : Fraction) (n : ℤ) → (pos 0) <ℤ d → Worth d f n → Worth d g n → HaveSameCross f g
 worth-same d f g n positive p q =
     same_value f.num f.den n d g.num g.den positive p.equal (sym q.equal)
 
-pub worth_of_same : (d : ℤ) (f g : Fraction) (n : ℤ) → (pos 0) <ℤ g.den → IsSame f g → Worth d f n → Worth d g n
+pub worth_of_same : (d : ℤ) (f g : Fraction) (n : ℤ) → (pos 0) <ℤ g.den → HaveSameCross f g → Worth d f n → Worth d g n
 worth_of_same d f g n positive e p =
     record { below = positive; equal = same_value g.num g.den f.num f.den n d p.below (sym e) p.equal }
 

@@ -35,9 +35,15 @@ times a b = record { num = a.num *ℤ b.num; den = a.den *ℤ b.den }
 abbrev pub over : Fraction → ℤ → Fraction
 over a n = record { num = a.num; den = a.den *ℤ n }
 
--- both have one value
-abbrev pub IsSame : Fraction → Fraction → Type 0
-IsSame a b = a.num *ℤ b.den ≡ b.num *ℤ a.den
+-- the cross products agree: the values do, where the denominators are above zero
+abbrev pub HaveSameCross : Fraction → Fraction → Type 0
+HaveSameCross a b = a.num *ℤ b.den ≡ b.num *ℤ a.den
+
+-- both are fractions, with denominators above zero, of one value
+pub record IsSame (a b : Fraction) : Type 0 where
+  pub left : (pos 0) <ℤ a.den
+  pub right : (pos 0) <ℤ b.den
+  pub cross : HaveSameCross a b
 
 abbrev pub IsAtMost : Fraction → Fraction → Type 0
 IsAtMost a b = (a.num *ℤ b.den) ≤ℤ (b.num *ℤ a.den)

@@ -6,3 +6,4 @@ pub mod Terms
 pub mod Points
 pub mod Rows
 pub mod Tests
+pub mod Made

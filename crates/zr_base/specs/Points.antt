@@ -2,7 +2,7 @@
 use Rattle.std.specs.Prelude.{◌≡◌, ℕ, ℤ, pos, ◌<ℤ◌, List, length, slice_index_or}
 use Rattle.std.specs.List.{All}
 use Rattle.zr_base.specs.Steps.{IsNarrow}
-use Rattle.zr_base.specs.Fractions.{Fraction, IsSame}
+use Rattle.zr_base.specs.Fractions.{Fraction, HaveSameCross}
 
 -- the point with the values `num / den`
 pub record PointOf : Type 0 where
@@ -21,6 +21,9 @@ num_of x v = slice_index_or x.num v (pos 0)
 abbrev pub value_of : PointOf → ℕ → Fraction
 value_of x v = record { num = num_of x v; den = x.den }
 
--- the points have the same values
-abbrev pub IsSamePoint : PointOf → PointOf → Type 0
-IsSamePoint x y = (length x.num ≡ length y.num) × ((v : ℕ) → IsSame (value_of x v) (value_of y v))
+-- both have denominators above zero, and the same values
+pub record IsSamePoint (x y : PointOf) : Type 0 where
+  pub left : (pos 0) <ℤ x.den
+  pub right : (pos 0) <ℤ y.den
+  pub len : length x.num ≡ length y.num
+  pub values : (v : ℕ) → HaveSameCross (value_of x v) (value_of y v)

@@ -18,14 +18,14 @@ pub fn gcd(a: u128, b: u128) -> u128
     x
 }
 
-/// The greatest common divisor of a numerator and a denominator, at least 1.
-fn common(num: i128, den: i128) -> i128
-    requires { IsRatio num den }
+/// The greatest common divisor of a number and one above 0, at least 1.
+pub fn common(a: i128, b: i128) -> i128
+    requires { pos 0 <ℤ b }
     ensures positive { pos 0 <ℤ result }
-    ensures gcd { IsGcd (unsigned_abs num) (unsigned_abs den) (unsigned_abs result) }
-    ensures value { result ≡ pos (gcd_of (unsigned_abs num) (unsigned_abs den)) }
+    ensures gcd { IsGcd (unsigned_abs a) (unsigned_abs b) (unsigned_abs result) }
+    ensures value { result ≡ pos (gcd_of (unsigned_abs a) (unsigned_abs b)) }
 {
-    gcd(num.unsigned_abs(), den.unsigned_abs()) as i128
+    gcd(a.unsigned_abs(), b.unsigned_abs()) as i128
 }
 
 /// What is left of a number where a divisor is taken out.

@@ -50,6 +50,7 @@ impl Frac {
     pub fn num(self) -> i128
         ensures value { result ≡ self.num }
         ensures narrow { IsNarrow result }
+        ensures kept { IsLowest self }
     {
         self.num
     }
@@ -59,6 +60,7 @@ impl Frac {
         ensures value { result ≡ self.den }
         ensures positive { pos 0 <ℤ result }
         ensures narrow { IsNarrow result }
+        ensures kept { IsLowest self }
     {
         self.den
     }
@@ -117,6 +119,22 @@ impl Frac {
         ensures { result ≡ order_of self other }
     {
         order(self.num, self.den, other.num, other.den)
+    }
+}
+
+/// A whole number over 1.
+impl From<i64> for Frac {
+    ghost use Rattle.std.specs.Prelude.{◌≡◌};
+    ghost use Rattle.zr_base.specs.Fractions.{whole};
+    ghost use Rattle.zr_base.specs.Lowest.{IsLowest};
+
+    ghost from_gives = { λ z f. (f ≡ whole z) × IsLowest f };
+
+    fn from(z: i64) -> Frac {
+        Frac {
+            num: i128::from(z),
+            den: 1,
+        }
     }
 }
 

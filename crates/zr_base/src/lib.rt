@@ -9,7 +9,7 @@ mod point;
 mod row;
 mod step;
 
-pub use euclid::{divided, gcd};
+pub use euclid::{common, divided, gcd};
 pub use frac::Frac;
 pub use memory::NoMemory;
 pub use point::Point;

@@ -1,7 +1,10 @@
 ghost use Rattle.std.specs.Prelude.{◌≡◌, ◌↔◌, ◌<◌, pos, ◌<ℤ◌, length, IsOk, IfOk, IfErr, slice_index_or};
 ghost use Rattle.zr_base.specs.Steps.{IsNarrow};
-ghost use Rattle.zr_base.specs.Points.{IsPoint};
+ghost use Rattle.zr_base.specs.Fractions.{IsSame};
+ghost use Rattle.zr_base.specs.Lowest.{IsLowest, reduce};
+ghost use Rattle.zr_base.specs.Points.{IsPoint, num_of, value_of};
 
+use crate::frac::Frac;
 use std::marker::Model;
 
 /// A point: a list of numbers over one denominator, which is at least 1. No number is `i128::MIN`.
@@ -28,6 +31,7 @@ impl Point {
     pub fn new(num: Vec<i128>, den: i128) -> Result<Point, Vec<i128>>
         ensures valid { IsOk result ↔ IsPoint num.items den }
         ensures ok { IfOk result (λ x. (x.num ≡ num.items) × (x.den ≡ den)) }
+        ensures kept { IfOk result (λ x. IsPoint x.num x.den) }
         ensures err { IfErr result (λ list. list.items ≡ num.items) }
     {
         if den < 1 || num.iter().any(|x| *x == i128::MIN) {
@@ -50,6 +54,7 @@ impl Point {
         requires { j < length self.now.num }
         ensures value { result ≡ slice_index_or self.now.num j (pos 0) }
         ensures narrow { IsNarrow result }
+        ensures kept { IsPoint self.now.num self.now.den }
     {
         self.num[j]
     }
@@ -59,7 +64,18 @@ impl Point {
         ensures value { result ≡ self.now.den }
         ensures positive { pos 0 <ℤ result }
         ensures narrow { IsNarrow result }
+        ensures kept { IsPoint self.now.num self.now.den }
     {
         self.den
+    }
+
+    /// Value `j`, which is below `len`, in lowest terms.
+    pub fn value(&self, j: usize) -> Frac
+        requires { j < length self.now.num }
+        ensures value { result ≡ reduce (num_of self.now j) self.now.den }
+        ensures same { IsSame result (value_of self.now j) }
+        ensures lowest { IsLowest result }
+    {
+        Frac::new(self.num(j), self.den()).unwrap()
     }
 }

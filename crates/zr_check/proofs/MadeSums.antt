@@ -7,7 +7,7 @@ use Rattle.std.proofs.lemmas.Bool.{cases_lt}
 use Rattle.std.proofs.lemmas.List.{get_or_default, get_or_past}
 use Rattle.zr_base.specs.declared.step.Wide.{Wide}
 use Rattle.zr_base.specs.Steps.{IsNarrow, ◌>>=◌}
-use Rattle.zr_base.specs.Fractions.{Fraction, IsSame, over, plus, ratio, sum_below, sum_over, times, whole}
+use Rattle.zr_base.specs.Fractions.{Fraction, HaveSameCross, over, plus, ratio, sum_below, sum_over, times, whole}
 use Rattle.zr_base.specs.Lowest.{IsLowest, IsRatio, add_of, mul_of, reduce}
 use Rattle.zr_base.specs.Points.{PointOf, num_of, value_of}
 use Rattle.zr_base.specs.Terms.{Ascends, coef_at}
@@ -51,7 +51,7 @@ sum_exact make g P exact (x ∷ xs) s f all lowest e =
     let so_far = plus_right r s a (g x) item.lowest.ratio.positive sum.same item.same in
     record {
       lowest = rest.lowest;
-      same = subst (λ (z : Fraction). IsSame f z) (sym (plus_assoc s (g x) (sum_over xs g))) (plus_left f (sum_over xs g) r (plus s (g x)) sum.lowest.ratio.positive rest.same so_far);
+      same = subst (λ (z : Fraction). HaveSameCross f z) (sym (plus_assoc s (g x) (sum_over xs g))) (plus_left f (sum_over xs g) r (plus s (g x)) sum.lowest.ratio.positive rest.same so_far);
     }
 
 -- a sum from 0 on
@@ -93,7 +93,7 @@ module _ (t : ℤ) (v : ℕ) where
         num n d m e = omega (arith, ints)
 
     -- their sum is the weighted sum over the total
-    shares_over : (parts : Strategy) → Each IsPartForm parts → ((pos 0) <ℤ (sum_over parts share_value).den) × IsSame (sum_over parts share_value) (over (weighted parts (λ x. value_of x v)) t)
+    shares_over : (parts : Strategy) → Each IsPartForm parts → ((pos 0) <ℤ (sum_over parts share_value).den) × HaveSameCross (sum_over parts share_value) (over (weighted parts (λ x. value_of x v)) t)
     shares_over [] all = (omega (arith, ints), zero-*ℤ (pos 1 *ℤ t))
     shares_over (part ∷ parts) all =
         let rest = shares_over parts all.1 in
@@ -105,15 +105,15 @@ module _ (t : ℤ) (v : ℕ) where
         let positive : (pos 0) <ℤ t = (let h = weight.0 in omega (arith, ints, h)) in
         let den = mul_positive a.den s.den (mul_positive t x.den positive all.0.point.0) rest.0 in
         let right = plus_right (plus a s) a s (over w t) rest.0 refl rest.1 in
-        let more = one_share (plus a s) w x part.weight t positive (subst (λ (z : Fraction). IsSame (plus a s) z) (turned a (over w t)) right) in
-        (den, subst (λ (z : Fraction). IsSame (plus a s) (over z t)) (turned w own) more)
+        let more = one_share (plus a s) w x part.weight t positive (subst (λ (z : Fraction). HaveSameCross (plus a s) z) (turned a (over w t)) right) in
+        (den, subst (λ (z : Fraction). HaveSameCross (plus a s) (over z t)) (turned w own) more)
 
     pub mean_exact : (parts : Strategy) → Each IsPartForm parts → t ≡ total parts → (f : Fraction) → mean_steps t parts v ≡ Ok f → IsReduced f (mean parts v)
     mean_exact parts all whole_total f e =
         let x = sum_from_zero (share t v) share_value IsPartForm share_exact parts f all e in
         let s = shares_over parts all in
         let r = same_trans f (whole (pos 0)) (sum_over parts share_value) (over (weighted parts (λ x. value_of x v)) t) s.0 x.same s.1 in
-        record { lowest = x.lowest; same = subst (λ (n : ℤ). IsSame f (over (weighted parts (λ x. value_of x v)) n)) whole_total r }
+        record { lowest = x.lowest; same = subst (λ (n : ℤ). HaveSameCross f (over (weighted parts (λ x. value_of x v)) n)) whole_total r }
 
 -- slopes at means
 coef_narrow : (low columns : ℕ) (ts : List (ℕ × ℤ)) (v : ℕ) → Ascends low columns ts → IsNarrow (coef_at ts v)
@@ -173,4 +173,4 @@ pub value_exact : (n : ℕ) (xs ys : List Fraction) (f g : ℕ → Fraction) →
 value_exact n xs ys f g left right r e =
     let lens = left.len ∙ sym right.len in
     let x = sum_from_zero product_made product_of HasDens (λ p dens a made. mul_of_exact p.0 p.1 a dens.0 dens.1 made) (zip xs ys) r (zip_dens xs ys (dens_if n xs f left) (dens_if n ys g right)) e in
-    value_along xs ys n f g left right r x.lowest (subst (λ k. IsSame r (sum_below k (λ v. times (item_of xs v) (item_of ys v)))) left.len (subst (IsSame r) (zip_below xs ys lens) x.same))
+    value_along xs ys n f g left right r x.lowest (subst (λ k. HaveSameCross r (sum_below k (λ v. times (item_of xs v) (item_of ys v)))) left.len (subst (HaveSameCross r) (zip_below xs ys lens) x.same))

@@ -1,7 +1,7 @@
 -- When a certificate is right.
 use Rattle.std.specs.Prelude.{◌≡◌, ℕ, ℤ, Some, List, length, slice_get}
 use Rattle.std.specs.List.{All}
-use Rattle.zr_base.specs.Fractions.{IsSame}
+use Rattle.zr_base.specs.Fractions.{HaveSameCross}
 use Rattle.zr_game.specs.Players.{GameOf, PlayerOf}
 use Rattle.zr_game.specs.Forms.{IsPlayer}
 use Rattle.zr_game.specs.Leaves.{Bound, LeafOf, above, below, decided, root_leaf, slots}
@@ -42,7 +42,7 @@ pub record ProvesEmpty (player : PlayerOf) (nodes : List NodeOf) : Type 0 where
 
 -- the printed cost is the expected cost of player i, and the tree proves its claim
 pub record IsRightBound (player : PlayerOf) (i : ℕ) (profile : Profile) (bound : BoundOf) : Type 0 where
-  pub cost : IsSame bound.cost (expected_cost player i profile)
+  pub cost : HaveSameCross bound.cost (expected_cost player i profile)
   pub left : List ℤ
   pub right : ℤ
   pub claim : IsClaimOf player i profile left right

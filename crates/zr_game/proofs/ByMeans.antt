@@ -6,7 +6,7 @@ use Rattle.zr_base.proofs.Dense.{sum_to-add, sum_to_same}
 use Rattle.zr_base.proofs.Divisors.{cancel, mul_positive}
 use Rattle.zr_base.proofs.Ring.{mul-add_right, spread}
 use Rattle.zr_base.proofs.Worth.{Each, Worth, sum_list, worth-below, worth-multiple, worth-over, worth-plus, worth-rescale, worth-same, worth-sum, worth-times, worth-whole, worth_of_same}
-use Rattle.zr_base.specs.Fractions.{Fraction, IsSame, sum_below, times, whole}
+use Rattle.zr_base.specs.Fractions.{Fraction, HaveSameCross, sum_below, times, whole}
 use Rattle.zr_base.specs.Points.{PointOf, value_of}
 use Rattle.zr_base.specs.Sums.{sum_to}
 use Rattle.zr_base.specs.Terms.{Ascends, coef_at}
@@ -123,13 +123,13 @@ module _ (player : PlayerOf) (i columns : ℕ) (profile : Profile) (d : ℤ) (po
       let b = λ (points : List PointOf). sum_list player.cross (λ t. t.coef *ℤ (num_over d (point_of points i) t.own *ℤ num_over d (point_of points t.player) t.var)) in
       sum_to_same columns (λ v. slope_num player profile d v *ℤ e v) (λ v. (coef_at player.cost v *ℤ m) *ℤ e v +ℤ sum_list (filter (λ t. t.own == v) player.cross) h *ℤ e v) (λ v p. mul-add_right (coef_at player.cost v *ℤ m) (sum_list (filter (λ t. t.own == v) player.cross) h) (e v)) ∙ sum_to-add columns (λ v. (coef_at player.cost v *ℤ m) *ℤ e v) (λ v. sum_list (filter (λ t. t.own == v) player.cross) h *ℤ e v) ∙ ap₂ ◌+ℤ◌ (own_columns columns player.cost m e cost_form ∙ sym own_part) (cross_columns columns player.cross h e (Each_more (IsCross i columns (length profile)) (λ t. t.own < columns) player.cross (λ t form. form.0) cross_form) ∙ sym cross_part) ∙ sym (mul-add_right (tuples profile a) (tuples profile b) (totals profile)) ∙ ap (λ x. x *ℤ totals profile) (sym (tuples-add profile a b))
 
-  module _ (f : ℕ → Fraction) (positive_f : (v : ℕ) → v < columns → (pos 0) <ℤ (f v).den) (same : (v : ℕ) → v < columns → IsSame (mean (strategy_of profile i) v) (f v)) where
+  module _ (f : ℕ → Fraction) (positive_f : (v : ℕ) → v < columns → (pos 0) <ℤ (f v).den) (same : (v : ℕ) → v < columns → HaveSameCross (mean (strategy_of profile i) v) (f v)) where
     worth-dot : Worth ((d *ℤ totals profile) *ℤ (d *ℤ totals profile)) (sum_below columns (λ v. times (slope player profile v) (f v))) (sum_to columns (λ v. slope_num player profile d v *ℤ mean_num profile d i v))
     worth-dot =
         let s = d *ℤ totals profile in
         worth-below (s *ℤ s) columns (λ v. times (slope player profile v) (f v)) (λ v. slope_num player profile d v *ℤ mean_num profile d i v) (λ v h. worth-times s s (slope player profile v) (f v) (slope_num player profile d v) (mean_num profile d i v) (worth-slope v) (worth_of_same s (mean (strategy_of profile i) v) (f v) (mean_num profile d i v) (positive_f v h) (same v h) (worth-mean i v here)))
 
-    pub by_means : IsSame (expected_cost player i profile) (sum_below columns (λ v. times (slope player profile v) (f v)))
+    pub by_means : HaveSameCross (expected_cost player i profile) (sum_below columns (λ v. times (slope player profile v) (f v)))
     by_means =
         let t = totals profile in
         let n = tuples profile (cost_num player i d) in

@@ -2,7 +2,7 @@
 use Rattle.std.proofs.Common.{◌≡◌, ◌≢◌, ℕ, zero, suc, ◌<◌, arith, refl, sym, subst, ◌∙◌, ℤ, pos, negsuc, ◌+ℤ◌, ◌*ℤ◌, ◌≤ℤ◌, ◌<ℤ◌, true, List, [], ◌∷◌, length, get_or, slice_get, Some, All, ◌⊎◌, inl, inr, ⊎_elim}
 use Rattle.std.proofs.lemmas.Int.{ints}
 use Rattle.std.proofs.lemmas.List.Elements.{All-cons, All-nil}
-use Rattle.zr_base.specs.Fractions.{Fraction, IsAtMost, IsSame}
+use Rattle.zr_base.specs.Fractions.{Fraction, IsAtMost, HaveSameCross}
 use Rattle.zr_base.specs.Points.{IsSamePoint, PointOf, num_of, value_of}
 use Rattle.zr_base.specs.Rows.{RowHolds}
 use Rattle.zr_game.specs.declared.player.CrossTerm.{CrossTerm}
@@ -144,7 +144,7 @@ module _ (number : ℤ) (term : CrossTerm) (x : PointOf) (feasible : IsFeasible 
   is_penny : (k : ℤ) → num_of x 0 ≡ k *ℤ x.den → IsSamePoint x (penny k)
   is_penny k e = (feasible.len, each)
     where
-      each : (v : ℕ) → IsSame (value_of x v) (value_of (penny k) v)
+      each : (v : ℕ) → HaveSameCross (value_of x v) (value_of (penny k) v)
       each zero = let one : num_of x 0 *ℤ pos 1 ≡ num_of x 0 = omega (arith, ints) in one ∙ e
       each (suc v) = let z = only_one x.num feasible.len v in rw z (omega (arith, ints))
         where
@@ -175,7 +175,7 @@ two_same x y p q x_den y_den p_den q_den first second = record { dens = dens; ot
     other_dens (suc zero) = q_den
     other_dens (suc (suc k)) = omega (arith, ints)
 
-    values : (k v : ℕ) → IsSame (value_of (point_of (x ∷ y ∷ []) k) v) (value_of (point_of (p ∷ q ∷ []) k) v)
+    values : (k v : ℕ) → HaveSameCross (value_of (point_of (x ∷ y ∷ []) k) v) (value_of (point_of (p ∷ q ∷ []) k) v)
     values zero v = first.1 v
     values (suc zero) v = second.1 v
     values (suc (suc k)) v = refl

@@ -5,7 +5,7 @@ use Rattle.std.proofs.lemmas.Int.{ints}
 use Rattle.std.proofs.lemmas.List.{take_all, take_more}
 use Rattle.zr_base.specs.declared.step.Wide.{Wide}
 use Rattle.zr_base.specs.Steps.{◌>>=◌}
-use Rattle.zr_base.specs.Fractions.{Fraction, IsSame, plus, sum_over, times, whole}
+use Rattle.zr_base.specs.Fractions.{Fraction, HaveSameCross, plus, sum_over, times, whole}
 use Rattle.zr_base.specs.Lowest.{IsLowest, add_of, gcd_of, reduce}
 use Rattle.zr_base.specs.Points.{PointOf, value_of}
 use Rattle.zr_base.proofs.Divisors.{quot_exact}
@@ -43,7 +43,7 @@ module _ {A : Type 0} (make : A → Result Fraction Wide) where
 -- what is made of the items of xs is added to start
 pub record Summed {A : Type 0} (make : A → Result Fraction Wide) (g : A → Fraction) (start : Fraction) (xs : List A) (sum : Fraction) : Type 0 where
   pub steps : sum_made make start xs ≡ Ok sum
-  pub exact : IsSame sum (plus start (sum_over xs g))
+  pub exact : HaveSameCross sum (plus start (sum_over xs g))
   pub lowest : IsLowest sum
 
 plus_none : (n d : ℤ) → n *ℤ (d *ℤ pos 1) ≡ (n *ℤ pos 1 +ℤ pos 0 *ℤ d) *ℤ d
@@ -57,7 +57,7 @@ module _ {A : Type 0} (make : A → Result Fraction Wide) (g : A → Fraction) (
   none_summed lowest = record { steps = refl; exact = plus_none start.num start.den; lowest = lowest }
 
   module _ (xs : List A) (i : ℕ) (d : A) (here : i < length xs) (sum : Fraction) (before : Summed make g start (take i xs) sum) where
-    pub more_summed : (a next : Fraction) → make (get_or xs i d) ≡ Ok a → IsSame a (g (get_or xs i d)) → IsLowest a → add_of sum a ≡ Ok next → IsSame next (plus sum a) → IsLowest next → Summed make g start (take (i + 1) xs) next
+    pub more_summed : (a next : Fraction) → make (get_or xs i d) ≡ Ok a → HaveSameCross a (g (get_or xs i d)) → IsLowest a → add_of sum a ≡ Ok next → HaveSameCross next (plus sum a) → IsLowest next → Summed make g start (take (i + 1) xs) next
     more_summed a next made same lowest adds e next_lowest =
         let x = get_or xs i d in
         let right = plus_right next sum a (g x) lowest.ratio.positive e same in
@@ -66,7 +66,7 @@ module _ {A : Type 0} (make : A → Result Fraction Wide) (g : A → Fraction) (
         let last : sum_made make sum (x ∷ []) ≡ Ok next = rw (made, adds) refl in
         let all : Summed make g start (take i xs ++ x ∷ []) next = record {
           steps = sum_made-append make start (take i xs) (x ∷ []) ∙ ap (λ (r : Result Fraction Wide). r >>= λ z. sum_made make z (x ∷ [])) before.steps ∙ last;
-          exact = subst (λ (z : Fraction). IsSame next z) whole_sum left;
+          exact = subst (λ (z : Fraction). HaveSameCross next z) whole_sum left;
           lowest = next_lowest;
         } in
         subst (λ (ys : List A). Summed make g start ys next) (sym (take_more xs i d here)) all
@@ -95,14 +95,14 @@ pub point_is : (points : List PointOf) (k : ℕ) (x : PointOf) → k < length po
 point_is points k x h e = e ∙ get_or_default points k x (record { num = List.[]; den = pos 1 }) h
 
 -- a number times an own value, and then times another value
-pub both_exact : (i : ℕ) (points : List PointOf) (t : CrossTerm) (a : Fraction) (r : Result Fraction Wide) → IsSame a (times (whole t.coef) (value_of (point_of points i) t.own)) → IsLowest a → IfOk r (λ f. IsSame f (times a (value_of (point_of points t.player) t.var))) → IfOk r (λ f. IsSame f (cross_value i points t))
+pub both_exact : (i : ℕ) (points : List PointOf) (t : CrossTerm) (a : Fraction) (r : Result Fraction Wide) → HaveSameCross a (times (whole t.coef) (value_of (point_of points i) t.own)) → IsLowest a → IfOk r (λ f. HaveSameCross f (times a (value_of (point_of points t.player) t.var))) → IfOk r (λ f. HaveSameCross f (cross_value i points t))
 both_exact i points t a r same lowest made =
     let own = value_of (point_of points i) t.own in
     let other = value_of (point_of points t.player) t.var in
-    if_same r (times a other) (cross_value i points t) (λ f e. subst (λ (z : Fraction). IsSame f z) (times_assoc (whole t.coef) own other) (times_left f other a (times (whole t.coef) own) lowest.ratio.positive e same)) made
+    if_same r (times a other) (cross_value i points t) (λ f e. subst (λ (z : Fraction). HaveSameCross f z) (times_assoc (whole t.coef) own other) (times_left f other a (times (whole t.coef) own) lowest.ratio.positive e same)) made
 
 -- the own terms and then the cross terms are the cost
-pub cost_exact : (player : PlayerOf) (i : ℕ) (points : List PointOf) (own : Fraction) (r : Result Fraction Wide) → IsSame own (sum_over player.cost (λ t. times (whole t.1) (value_of (point_of points i) t.0))) → IsLowest own → IfOk r (λ f. IsSame f (plus own (sum_over player.cross (cross_value i points)))) → IfOk r (λ f. IsSame f (cost_of player i points))
+pub cost_exact : (player : PlayerOf) (i : ℕ) (points : List PointOf) (own : Fraction) (r : Result Fraction Wide) → HaveSameCross own (sum_over player.cost (λ t. times (whole t.1) (value_of (point_of points i) t.0))) → IsLowest own → IfOk r (λ f. HaveSameCross f (plus own (sum_over player.cross (cross_value i points)))) → IfOk r (λ f. HaveSameCross f (cost_of player i points))
 cost_exact player i points own r same lowest made =
     let terms = sum_over player.cost (λ t. times (whole t.1) (value_of (point_of points i) t.0)) in
     let cross = sum_over player.cross (cross_value i points) in

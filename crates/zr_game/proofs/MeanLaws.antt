@@ -8,7 +8,7 @@ use Rattle.std.proofs.lemmas.Option.{slice_get_within, slice_get_cases}
 use Rattle.zr_base.proofs.Divisors.{mul_positive}
 use Rattle.zr_base.proofs.Ring.{spread}
 use Rattle.zr_base.proofs.Worth.{Each, Worth, at_most, worth_of_same}
-use Rattle.zr_base.specs.Fractions.{Fraction, IsAtMost, IsSame, plus, sum_below, sum_over, times, whole}
+use Rattle.zr_base.specs.Fractions.{Fraction, IsAtMost, HaveSameCross, plus, sum_below, sum_over, times, whole}
 use Rattle.zr_base.specs.Points.{PointOf, value_of}
 use Rattle.zr_base.specs.Terms.{Ascends, coef_at}
 use Rattle.zr_game.proofs.ByMeans.{IsCross, by_means, expected_positive, mean_positive, slope_positive}
@@ -45,14 +45,14 @@ other_worth : (a b c : ℤ) → a *ℤ (b *ℤ c) ≡ (a *ℤ b) *ℤ c
 other_worth a b c = simp spread refl
 
 -- fractions of the same values are ordered alike
-pub order_same : (a b a' b' : Fraction) → (pos 0) <ℤ a.den → (pos 0) <ℤ b.den → (pos 0) <ℤ a'.den → (pos 0) <ℤ b'.den → IsSame a a' → IsSame b b' → IsAtMost a b → IsAtMost a' b'
+pub order_same : (a b a' b' : Fraction) → (pos 0) <ℤ a.den → (pos 0) <ℤ b.den → (pos 0) <ℤ a'.den → (pos 0) <ℤ b'.den → HaveSameCross a a' → HaveSameCross b b' → IsAtMost a b → IsAtMost a' b'
 order_same a b a' b' p q p' q' s t h =
     let d = a.den *ℤ b.den in
     let left : Worth d a (a.num *ℤ b.den) = record { below = p; equal = own_worth a.num a.den b.den } in
     let right : Worth d b (b.num *ℤ a.den) = record { below = q; equal = other_worth b.num a.den b.den } in
     at_most d a' b' (a.num *ℤ b.den) (b.num *ℤ a.den) (mul_positive a.den b.den p q) (worth_of_same d a a' (a.num *ℤ b.den) p' s left) (worth_of_same d b b' (b.num *ℤ a.den) q' t right) h
 
-mean_surely : (x : PointOf) (v : ℕ) → IsSame (mean (surely x) v) (value_of x v)
+mean_surely : (x : PointOf) (v : ℕ) → HaveSameCross (mean (surely x) v) (value_of x v)
 mean_surely x v =
     let n : (mean (surely x) v).num ≡ (value_of x v).num = omega (arith, ints) in
     let d : (mean (surely x) v).den ≡ (value_of x v).den = omega (arith, ints) in
@@ -92,7 +92,7 @@ module _ (game : GameOf) (profile : Profile) (valid : IsProfile game profile) wh
     cost_form : Ascends 0 (length player.vars) player.cost
     cost_form = ascends player.cost 0 (length player.vars) form.cost
 
-    pub along : (f : ℕ → Fraction) → ((v : ℕ) → v < length player.vars → (pos 0) <ℤ (f v).den) → ((v : ℕ) → v < length player.vars → IsSame (mean (strategy_of profile i) v) (f v)) → IsSame (expected_cost player i profile) (along_slope player profile f)
+    pub along : (f : ℕ → Fraction) → ((v : ℕ) → v < length player.vars → (pos 0) <ℤ (f v).den) → ((v : ℕ) → v < length player.vars → HaveSameCross (mean (strategy_of profile i) v) (f v)) → HaveSameCross (expected_cost player i profile) (along_slope player profile f)
     along f positive same =
         by_means player i (length player.vars) profile (den_of_all profile) (positive_all profile dens) (shared_by_all profile dens) full (here i player is) cost_form cross_form f positive same
 
@@ -104,7 +104,7 @@ module _ (game : GameOf) (profile : Profile) (valid : IsProfile game profile) wh
     slope_den v =
         slope_positive player i (length player.vars) profile (den_of_all profile) (positive_all profile dens) (shared_by_all profile dens) full (here i player is) cost_form cross_form v
 
-    pub at_mean : IsSame (expected_cost player i profile) (along_slope player profile (mean (strategy_of profile i)))
+    pub at_mean : HaveSameCross (expected_cost player i profile) (along_slope player profile (mean (strategy_of profile i)))
     at_mean = along (mean (strategy_of profile i)) (λ v h. mean_den v) (λ v h. refl)
 
     pub expected_den : (pos 0) <ℤ (expected_cost player i profile).den
@@ -140,9 +140,9 @@ module _ (game : GameOf) (profile : Profile) (valid : IsProfile game profile) (i
     along_same f =
         below_same (length player.vars) (λ v. times (slope player (deviation profile i x) v) (f v)) (λ v. times (slope player profile v) (f v)) (λ v. ap (λ s. times s (f v)) (slope_same v))
 
-    pub at_deviation : IsSame (expected_cost player i (deviation profile i x)) (along_slope player profile (value_of x))
+    pub at_deviation : HaveSameCross (expected_cost player i (deviation profile i x)) (along_slope player profile (value_of x))
     at_deviation =
-        subst (λ a. IsSame (expected_cost player i (deviation profile i x)) a) (along_same (value_of x)) (along game (deviation profile i x) deviation_valid i player is form (value_of x) (λ v h. feasible.point) (λ v h. subst (λ s. IsSame (mean s v) (value_of x v)) (sym replaced) (mean_surely x v)))
+        subst (λ a. HaveSameCross (expected_cost player i (deviation profile i x)) a) (along_same (value_of x)) (along game (deviation profile i x) deviation_valid i player is form (value_of x) (λ v h. feasible.point) (λ v h. subst (λ s. HaveSameCross (mean s v) (value_of x v)) (sym replaced) (mean_surely x v)))
 
     deviation_den : (pos 0) <ℤ (expected_cost player i (deviation profile i x)).den
     deviation_den = expected_den game (deviation profile i x) deviation_valid i player is form

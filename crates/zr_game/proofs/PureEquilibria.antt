@@ -1,7 +1,7 @@
 -- Pure profiles are compared by the costs at their points.
 use Rattle.std.proofs.Common.{◌≡◌, ◌↔◌, ℕ, arith, refl, sym, subst, ℤ, pos, ◌*ℤ◌, ◌<ℤ◌, List, [], ◌∷◌, slice_set, All}
 use Rattle.std.proofs.lemmas.Int.{ints}
-use Rattle.zr_base.specs.Fractions.{Fraction, IsAtMost, IsSame, over, sum_over, times, whole}
+use Rattle.zr_base.specs.Fractions.{Fraction, IsAtMost, HaveSameCross, over, sum_over, times, whole}
 use Rattle.zr_base.specs.Points.{PointOf, value_of}
 use Rattle.zr_base.proofs.Divisors.{mul_positive}
 use Rattle.zr_base.proofs.Ring.{spread}
@@ -89,7 +89,7 @@ cost_den player i points h =
 pub record AreSame (points others : List PointOf) : Type 0 where
   pub dens : (k : ℕ) → (pos 0) <ℤ (point_of points k).den
   pub other_dens : (k : ℕ) → (pos 0) <ℤ (point_of others k).den
-  pub values : (k v : ℕ) → IsSame (value_of (point_of points k) v) (value_of (point_of others k) v)
+  pub values : (k v : ℕ) → HaveSameCross (value_of (point_of points k) v) (value_of (point_of others k) v)
 
 -- costs at points of the same values are ordered alike
 pub costs_ordered : (player : PlayerOf) (i : ℕ) (a b c d : List PointOf) → AreSame a c → AreSame b d → IsAtMost (cost_of player i a) (cost_of player i b) → IsAtMost (cost_of player i c) (cost_of player i d)

@@ -1,7 +1,7 @@
 -- Pure profiles: their expected cost is the cost at their points.
 use Rattle.std.proofs.Common.{◌≡◌, ℕ, zero, suc, arith, refl, sym, ap, subst, ◌∙◌, ℤ, pos, ◌+ℤ◌, ◌*ℤ◌, List, [], ◌∷◌, length, slice_set, All}
 use Rattle.std.proofs.lemmas.Int.{ints}
-use Rattle.zr_base.specs.Fractions.{Fraction, IsSame, whole, plus, times, over}
+use Rattle.zr_base.specs.Fractions.{Fraction, HaveSameCross, whole, plus, times, over}
 use Rattle.zr_base.specs.Points.{PointOf}
 use Rattle.zr_base.proofs.Ring.{spread, mul_assoc}
 use Rattle.zr_base.proofs.Sames.{same_record}
@@ -48,15 +48,15 @@ each (s ∷ ss) all = (all 0 s (omega arith), each ss (λ k d h. all (suc k) d (
 pub expected_is : (player : PlayerOf) (i : ℕ) (profile : Profile) → All IsOne profile → expected_cost player i profile ≡ over (scaled (totals profile) (cost_of player i (points_of profile))) (totals profile)
 expected_is player i profile all = ap (λ f. over f (totals profile)) (one_tuple profile (cost_of player i) (each profile all))
 
-same_over : (k : ℤ) (f : Fraction) → IsSame (over (scaled k f) k) f
+same_over : (k : ℤ) (f : Fraction) → HaveSameCross (over (scaled k f) k) f
 same_over k f = flat k f.num f.den
   where
     flat : (k n d : ℤ) → (k *ℤ n) *ℤ d ≡ n *ℤ (d *ℤ k)
     flat k n d = simp spread refl
 
-pub pure_cost : (player : PlayerOf) (i : ℕ) (profile : Profile) → All IsOne profile → IsSame (expected_cost player i profile) (cost_of player i (points_of profile))
+pub pure_cost : (player : PlayerOf) (i : ℕ) (profile : Profile) → All IsOne profile → HaveSameCross (expected_cost player i profile) (cost_of player i (points_of profile))
 pure_cost player i profile all =
-    subst (λ f. IsSame f (cost_of player i (points_of profile))) (sym (expected_is player i profile all)) (same_over (totals profile) (cost_of player i (points_of profile)))
+    subst (λ f. HaveSameCross f (cost_of player i (points_of profile))) (sym (expected_is player i profile all)) (same_over (totals profile) (cost_of player i (points_of profile)))
 
 pub points_of-deviation : (profile : Profile) (i : ℕ) (x : PointOf) → points_of (deviation profile i x) ≡ slice_set (points_of profile) i x
 points_of-deviation [] i x = refl
@@ -77,6 +77,6 @@ each_deviation (s ∷ ss) (suc i) x all = (all.0, each_deviation ss i x all.1)
 pub pure_deviation : (profile : Profile) (i : ℕ) (x : PointOf) → All IsOne profile → All IsOne (deviation profile i x)
 pure_deviation profile i x all = all_of (deviation profile i x) (each_deviation profile i x (each profile all))
 
-pub deviation_cost : (player : PlayerOf) (i : ℕ) (profile : Profile) (x : PointOf) → All IsOne profile → IsSame (expected_cost player i (deviation profile i x)) (cost_of player i (slice_set (points_of profile) i x))
+pub deviation_cost : (player : PlayerOf) (i : ℕ) (profile : Profile) (x : PointOf) → All IsOne profile → HaveSameCross (expected_cost player i (deviation profile i x)) (cost_of player i (slice_set (points_of profile) i x))
 deviation_cost player i profile x all =
-    subst (λ points. IsSame (expected_cost player i (deviation profile i x)) (cost_of player i points)) (points_of-deviation profile i x) (pure_cost player i (deviation profile i x) (pure_deviation profile i x all))
+    subst (λ points. HaveSameCross (expected_cost player i (deviation profile i x)) (cost_of player i points)) (points_of-deviation profile i x) (pure_cost player i (deviation profile i x) (pure_deviation profile i x all))

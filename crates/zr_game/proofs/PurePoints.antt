@@ -4,7 +4,7 @@ use Rattle.std.proofs.lemmas.Bool.{cases_eq}
 use Rattle.std.proofs.lemmas.List.{get_or-map, length-map}
 use Rattle.std.proofs.lemmas.List.Elements.{All-map}
 use Rattle.std.proofs.lemmas.Option.{slice_get_within}
-use Rattle.zr_base.specs.Fractions.{IsSame}
+use Rattle.zr_base.specs.Fractions.{HaveSameCross}
 use Rattle.zr_base.specs.Points.{PointOf, value_of}
 use Rattle.zr_game.specs.Players.{GameOf, PlayerOf}
 use Rattle.zr_game.specs.Forms.{IsPlayer}
@@ -63,7 +63,7 @@ pub set_same : (a b : List PointOf) (i : ℕ) (x : PointOf) → i < length a →
 set_same a b i x in_a in_b positive s = record {
   dens = λ k. of a k in_a s.dens;
   other_dens = λ k. of b k in_b s.other_dens;
-  values = λ k v. ⊎_elim (λ (e : k ≡ i). subst (λ n. IsSame (value_of (point_of (slice_set a i x) n) v) (value_of (point_of (slice_set b i x) n) v)) (sym e) (same_here v)) (λ (n : k ≢ i). there k v n) (cases_eq k i);
+  values = λ k v. ⊎_elim (λ (e : k ≡ i). subst (λ n. HaveSameCross (value_of (point_of (slice_set a i x) n) v) (value_of (point_of (slice_set b i x) n) v)) (sym e) (same_here v)) (λ (n : k ≢ i). there k v n) (cases_eq k i);
 }
   where
     here : (a : List PointOf) → i < length a → point_of (slice_set a i x) i ≡ x
@@ -72,15 +72,15 @@ set_same a b i x in_a in_b positive s = record {
     other : (a : List PointOf) (k : ℕ) → k ≢ i → point_of (slice_set a i x) k ≡ point_of a k
     other a k n = get_or-set_other a i k x (record { num = List.[]; den = pos 1 }) n
 
-    same_here : (v : ℕ) → IsSame (value_of (point_of (slice_set a i x) i) v) (value_of (point_of (slice_set b i x) i) v)
+    same_here : (v : ℕ) → HaveSameCross (value_of (point_of (slice_set a i x) i) v) (value_of (point_of (slice_set b i x) i) v)
     same_here v = rw (here a in_a, here b in_b) refl
 
     of : (a : List PointOf) (k : ℕ) → i < length a → ((k : ℕ) → (pos 0) <ℤ (point_of a k).den) → (pos 0) <ℤ (point_of (slice_set a i x) k).den
     of a k h dens =
         ⊎_elim (λ (e : k ≡ i). subst (λ n. (pos 0) <ℤ (point_of (slice_set a i x) n).den) (sym e) (subst (λ y. (pos 0) <ℤ y.den) (sym (here a h)) positive)) (λ (n : k ≢ i). subst (λ y. (pos 0) <ℤ y.den) (sym (other a k n)) (dens k)) (cases_eq k i)
 
-    there : (k v : ℕ) → k ≢ i → IsSame (value_of (point_of (slice_set a i x) k) v) (value_of (point_of (slice_set b i x) k) v)
-    there k v n = subst (λ y. IsSame (value_of y v) (value_of (point_of (slice_set b i x) k) v)) (sym (other a k n)) (subst (λ y. IsSame (value_of (point_of a k) v) (value_of y v)) (sym (other b k n)) (s.values k v))
+    there : (k v : ℕ) → k ≢ i → HaveSameCross (value_of (point_of (slice_set a i x) k) v) (value_of (point_of (slice_set b i x) k) v)
+    there k v n = subst (λ y. HaveSameCross (value_of y v) (value_of (point_of (slice_set b i x) k) v)) (sym (other a k n)) (subst (λ y. HaveSameCross (value_of (point_of a k) v) (value_of y v)) (sym (other b k n)) (s.values k v))
 
 -- points of the same values are stable alike
 pub stable_same : (game : GameOf) (a b : List PointOf) → length a ≡ length game → length b ≡ length game → AreSame a b → IsStableAt game a → IsStableAt game b

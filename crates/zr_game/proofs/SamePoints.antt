@@ -4,7 +4,7 @@ use Rattle.std.proofs.lemmas.Int.{ints}
 use Rattle.zr_base.proofs.Divisors.{cancel}
 use Rattle.zr_base.proofs.Ring.{spread}
 use Rattle.zr_base.proofs.Worth.{le_of_times, le_times}
-use Rattle.zr_base.specs.Fractions.{Fraction, IsSame, plus, sum_over, times, whole}
+use Rattle.zr_base.specs.Fractions.{Fraction, HaveSameCross, plus, sum_over, times, whole}
 use Rattle.zr_base.specs.Points.{IsSamePoint, PointOf, num_of, value_of}
 use Rattle.zr_base.specs.Rows.{products}
 use Rattle.zr_base.specs.Sums.{sum_products}
@@ -14,21 +14,21 @@ use Rattle.zr_game.specs.Feasible.{IsFeasible, IsWithin, PairHolds, slack}
 use Rattle.zr_game.specs.Players.{PairOf, PlayerOf, VarOf}
 use Rattle.zr_game.specs.declared.player.CrossTerm.{CrossTerm}
 
-plus_same : (a b c d : Fraction) → IsSame a c → IsSame b d → IsSame (plus a b) (plus c d)
+plus_same : (a b c d : Fraction) → HaveSameCross a c → HaveSameCross b d → HaveSameCross (plus a b) (plus c d)
 plus_same a b c d p q =
     let m = simp spread at (ap (λ z. z *ℤ (b.den *ℤ d.den)) p) in
     let n = simp spread at (ap (λ z. z *ℤ (a.den *ℤ c.den)) q) in
     simp spread (omega (arith, ints, m, n))
 
-times_same : (a b c d : Fraction) → IsSame a c → IsSame b d → IsSame (times a b) (times c d)
+times_same : (a b c d : Fraction) → HaveSameCross a c → HaveSameCross b d → HaveSameCross (times a b) (times c d)
 times_same a b c d p q =
     let m = simp spread at (ap₂ ◌*ℤ◌ p q) in simp spread (omega (arith, ints, m))
 
-sum_same : {A : Type 0} (xs : List A) (f g : A → Fraction) → ((x : A) → IsSame (f x) (g x)) → IsSame (sum_over xs f) (sum_over xs g)
+sum_same : {A : Type 0} (xs : List A) (f g : A → Fraction) → ((x : A) → HaveSameCross (f x) (g x)) → HaveSameCross (sum_over xs f) (sum_over xs g)
 sum_same [] f g h = refl
 sum_same (x ∷ xs) f g h = plus_same (f x) (sum_over xs f) (g x) (sum_over xs g) (h x) (sum_same xs f g h)
 
-pub cost_same : (player : PlayerOf) (i : ℕ) (points others : List PointOf) → ((k v : ℕ) → IsSame (value_of (point_of points k) v) (value_of (point_of others k) v)) → IsSame (cost_of player i points) (cost_of player i others)
+pub cost_same : (player : PlayerOf) (i : ℕ) (points others : List PointOf) → ((k v : ℕ) → HaveSameCross (value_of (point_of points k) v) (value_of (point_of others k) v)) → HaveSameCross (cost_of player i points) (cost_of player i others)
 cost_same player i points others h =
     let a = λ (t : ℕ × ℤ). times (whole t.1) (value_of (point_of points i) t.0) in
     let b = λ (t : ℕ × ℤ). times (whole t.1) (value_of (point_of others i) t.0) in

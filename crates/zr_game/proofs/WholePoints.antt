@@ -4,7 +4,7 @@ use Rattle.std.specs.Int.{◌∣◌}
 use Rattle.std.proofs.Math.Nat.{dvd-mul_left}
 use Rattle.std.proofs.lemmas.Int.{ints, unsigned_abs-mul}
 use Rattle.std.proofs.lemmas.List.{get_or-map, length-map}
-use Rattle.zr_base.specs.Fractions.{IsSame}
+use Rattle.zr_base.specs.Fractions.{HaveSameCross}
 use Rattle.zr_base.specs.Points.{IsSamePoint, PointOf, num_of, value_of}
 use Rattle.zr_base.proofs.Divisors.{quot_exact}
 use Rattle.zr_base.proofs.Worth.{le_of_times}
@@ -57,21 +57,21 @@ beyond (x ∷ xs) (suc v) h = beyond xs v (omega arith)
 pub same_whole : (x : PointOf) → IsWholePoint x → IsSamePoint x (whole_of x)
 same_whole x whole = (sym (length-map x.num (λ n. int_div n x.den)), each)
   where
-    inside : (v : ℕ) → v < length x.num → IsSame (value_of x v) (value_of (whole_of x) v)
+    inside : (v : ℕ) → v < length x.num → HaveSameCross (value_of x v) (value_of (whole_of x) v)
     inside v h =
         let e = exact_quotient (num_of x v) x.den (whole v h) in
         let n = get_or-map (λ n. int_div n x.den) x.num v (pos 0) (pos 0) h in
         let one : num_of x v *ℤ pos 1 ≡ num_of x v = omega (arith, ints) in
         one ∙ sym e ∙ ap (λ z. z *ℤ x.den) (sym n)
 
-    outside : (v : ℕ) → length x.num ≤ v → IsSame (value_of x v) (value_of (whole_of x) v)
+    outside : (v : ℕ) → length x.num ≤ v → HaveSameCross (value_of x v) (value_of (whole_of x) v)
     outside v h =
         let n = beyond x.num v h in
         let len = length-map x.num (λ n. int_div n x.den) in
         let m = beyond (whole_of x).num v (omega arith) in
         rw (n, m) (omega (arith, ints))
 
-    each : (v : ℕ) → IsSame (value_of x v) (value_of (whole_of x) v)
+    each : (v : ℕ) → HaveSameCross (value_of x v) (value_of (whole_of x) v)
     each v = ⊎_elim (inside v) (outside v) (below_or v (length x.num))
       where
         below_or : (a b : ℕ) → (a < b) ⊎ (b ≤ a)

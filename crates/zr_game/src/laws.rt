@@ -1,5 +1,5 @@
 ghost use Rattle.std.specs.Prelude.{◌≡◌, ◌↔◌, ℕ, List, [], ◌∷◌, pos, ◌<ℤ◌, length, slice_set};
-ghost use Rattle.zr_base.specs.Fractions.{IsSame, plus};
+ghost use Rattle.zr_base.specs.Fractions.{HaveSameCross, plus};
 ghost use Rattle.zr_base.specs.Points.{IsSamePoint, PointOf, value_of};
 ghost use Rattle.zr_game.specs.Players.{GameOf, PlayerOf};
 ghost use Rattle.zr_game.specs.Forms.{IsGame, IsPlayer};
@@ -20,17 +20,17 @@ pub fn law_of_same_points()
 
 /// Points of the same values cost the same.
 pub fn law_of_same_costs()
-    ensures { (player : PlayerOf) (i : ℕ) (points others : List PointOf) → ((k v : ℕ) → IsSame (value_of (point_of points k) v) (value_of (point_of others k) v))
-        → IsSame (cost_of player i points) (cost_of player i others) }
+    ensures { (player : PlayerOf) (i : ℕ) (points others : List PointOf) → ((k v : ℕ) → HaveSameCross (value_of (point_of points k) v) (value_of (point_of others k) v))
+        → HaveSameCross (cost_of player i points) (cost_of player i others) }
 {}
 
 /// The expected cost of a pure profile is the cost at its points, and so it is where one player
 /// plays another point.
 pub fn law_of_pure_costs()
     ensures played { (player : PlayerOf) (i : ℕ) (profile : Profile) → IsOfKind Pure profile
-        → IsSame (expected_cost player i profile) (cost_of player i (points_of profile)) }
+        → HaveSameCross (expected_cost player i profile) (cost_of player i (points_of profile)) }
     ensures deviated { (player : PlayerOf) (i : ℕ) (profile : Profile) → IsOfKind Pure profile → (x : PointOf)
-        → IsSame (expected_cost player i (deviation profile i x)) (cost_of player i (slice_set (points_of profile) i x)) }
+        → HaveSameCross (expected_cost player i (deviation profile i x)) (cost_of player i (slice_set (points_of profile) i x)) }
 {}
 
 /// A pure profile is an equilibrium exactly where no player has a feasible point at which its cost
@@ -44,14 +44,14 @@ pub fn law_of_pure_equilibria()
 /// alone at the others' means.
 pub fn law_of_means()
     ensures { (game : GameOf) → IsGame game → (profile : Profile) → IsProfile game profile → (i : ℕ) (player : PlayerOf) → IsPlayer game i player
-        → IsSame (expected_cost player i profile)
+        → HaveSameCross (expected_cost player i profile)
         (plus (along_slope player profile (mean (strategy_of profile i))) (rest player profile)) }
 {}
 
 /// A deviation costs the sum of slope times value, plus the same.
 pub fn law_of_deviations()
     ensures { (game : GameOf) → IsGame game → (profile : Profile) → IsProfile game profile → (i : ℕ) (player : PlayerOf) → IsPlayer game i player → (x : PointOf) → IsFeasible player x
-        → IsSame (expected_cost player i (deviation profile i x))
+        → HaveSameCross (expected_cost player i (deviation profile i x))
         (plus (along_slope player profile (value_of x)) (rest player profile)) }
 {}
 

@@ -2,7 +2,7 @@
 use Rattle.std.proofs.Common.{◌≡◌, ℕ, ◌<◌, arith, refl, sym, ap, ◌∙◌, ℤ, pos, negsuc, neg_ℤ, ◌*ℤ◌, ◌<ℤ◌, List, length, slice_index_or}
 use Rattle.std.proofs.Math.IntN.{*ℤ_comm}
 use Rattle.std.proofs.lemmas.Int.{ints}
-use Rattle.zr_base.specs.Fractions.{Fraction, IsAtMost, IsSame, times, whole}
+use Rattle.zr_base.specs.Fractions.{Fraction, IsAtMost, HaveSameCross, times, whole}
 use Rattle.zr_base.specs.Points.{PointOf, num_of, value_of}
 use Rattle.zr_base.specs.Sums.{sum_to}
 use Rattle.zr_base.proofs.Dense.{sum_to-mul, sum_to_same}
@@ -21,7 +21,7 @@ use Rattle.zr_game.proofs.MeanLaws.{along_den, at_mean, equilibria, mean_den, sl
 use Rattle.zr_mix.specs.Checks.{ClaimHolds, HasClaims, IsClaimOf, claim_row}
 use Rattle.zr_mix.specs.Values.{IsReduced, item_of}
 
-claim_worth : (d n : ℤ) (f : Fraction) → (pos 0) <ℤ f.den → IsSame (times (whole d) f) (whole n) → Worth d f n
+claim_worth : (d n : ℤ) (f : Fraction) → (pos 0) <ℤ f.den → HaveSameCross (times (whole d) f) (whole n) → Worth d f n
 claim_worth d n f positive e =
     let one : pos 1 *ℤ f.den ≡ f.den = omega (arith, ints) in
     let s = *ℤ_comm d f.num in

@@ -6,7 +6,7 @@ use Rattle.std.proofs.Math.ListN.{drop_of_length-le}
 use Rattle.std.proofs.lemmas.Int.{ints}
 use Rattle.std.proofs.lemmas.List.{length-map}
 use Rattle.zr_base.specs.declared.step.Wide.{Wide}
-use Rattle.zr_base.specs.Fractions.{Fraction, IsSame, plus, sum_over, times, whole}
+use Rattle.zr_base.specs.Fractions.{Fraction, HaveSameCross, plus, sum_over, times, whole}
 use Rattle.zr_base.specs.Lowest.{IsLowest}
 use Rattle.zr_base.specs.Terms.{coef_at}
 use Rattle.zr_base.proofs.Divisors.{mul_positive}
@@ -54,14 +54,14 @@ pub no_player : (players : List Player) (j : ℕ) → length players ≤ j → v
 no_player players j h = ap (λ (ps : List Player). var_total (map player_of ps)) (drop_of_length-le players h)
 
 -- a sum over a list of fractions with the values of others
-sum_over_same : {A : Type 0} (f g : A → Fraction) (xs : List A) → Each (λ x. ((pos 0) <ℤ (f x).den) × IsSame (f x) (g x)) xs → ((pos 0) <ℤ (sum_over xs f).den) × IsSame (sum_over xs f) (sum_over xs g)
+sum_over_same : {A : Type 0} (f g : A → Fraction) (xs : List A) → Each (λ x. ((pos 0) <ℤ (f x).den) × HaveSameCross (f x) (g x)) xs → ((pos 0) <ℤ (sum_over xs f).den) × HaveSameCross (sum_over xs f) (sum_over xs g)
 sum_over_same f g [] all = (omega (arith, ints), refl)
 sum_over_same f g (x ∷ xs) all =
     let rest = sum_over_same f g xs all.1 in
     (mul_positive (f x).den (sum_over xs f).den all.0.0 rest.0, plus_same (f x) (sum_over xs f) (g x) (sum_over xs g) all.0.0 rest.0 all.0.1 rest.1)
 
 module _ (game : GameOf) (form : IsGame game) (i : ℕ) (player : PlayerOf) (is : IsPlayer game i player) (profile : Profile) (means : List Fraction) (are : AreMeans game profile means) where
-  term_same : (t : CrossTerm) → IsCrossForm game i (length player.vars) t → ((pos 0) <ℤ (term_at game means t).den) × IsSame (term_at game means t) (times (whole t.coef) (mean (strategy_of profile t.player) t.var))
+  term_same : (t : CrossTerm) → IsCrossForm game i (length player.vars) t → ((pos 0) <ℤ (term_at game means t).den) × HaveSameCross (term_at game means t) (times (whole t.coef) (mean (strategy_of profile t.player) t.var))
   term_same t f =
       let other = at_number game t.player f.player in
       let m = are t.player other.0 other.1 t.var (f.var other.0 other.1) in
@@ -77,7 +77,7 @@ module _ (game : GameOf) (form : IsGame game) (i : ℕ) (player : PlayerOf) (is 
       let g = term_at game means in
       let h = λ (t : CrossTerm). times (whole t.coef) (mean (strategy_of profile t.player) t.var) in
       let forms = Each_filter (IsCrossForm game i (length player.vars)) test player.cross (each_of_all (IsCrossForm game i (length player.vars)) player.cross (form.players i player is).cross) in
-      let sums = sum_over_same g h ts (Each_more (IsCrossForm game i (length player.vars)) (λ t. ((pos 0) <ℤ (g t).den) × IsSame (g t) (h t)) ts term_same forms) in
+      let sums = sum_over_same g h ts (Each_more (IsCrossForm game i (length player.vars)) (λ t. ((pos 0) <ℤ (g t).den) × HaveSameCross (g t) (h t)) ts term_same forms) in
       let one : (pos 0) <ℤ pos 1 = omega (arith, ints) in
       let whole_sum = plus_same c (sum_over ts g) c (sum_over ts h) one sums.0 refl sums.1 in
       record {
@@ -89,11 +89,11 @@ module _ (game : GameOf) (form : IsGame game) (i : ℕ) (player : PlayerOf) (is 
   all_at_means (Ok u) out n all = record { len = all.len; each = λ v h. at_means v (item_of out v) (all.each v h) }
   all_at_means (Err w) out n all = tt
 
-pub reduced_if : (r : Result Fraction Wide) (x : Fraction) → IfOk r (λ f. IsSame f x) → IfOk r IsLowest → IfOk r (λ f. IsReduced f x)
+pub reduced_if : (r : Result Fraction Wide) (x : Fraction) → IfOk r (λ f. HaveSameCross f x) → IfOk r IsLowest → IfOk r (λ f. IsReduced f x)
 reduced_if (Ok f) x same lowest = record { lowest = lowest; same = same }
 reduced_if (Err w) x same lowest = tt
 
 -- the one term, which passes
-pub only_term : {A : Type 0} (b : Bool) → b ≡ true → (g : A → Fraction) (t : A) (f sum : Fraction) → IsSame f (plus sum (g t)) → IsSame f (plus sum (sum_over (cond b (t ∷ []) []) g))
+pub only_term : {A : Type 0} (b : Bool) → b ≡ true → (g : A → Fraction) (t : A) (f sum : Fraction) → HaveSameCross f (plus sum (g t)) → HaveSameCross f (plus sum (sum_over (cond b (t ∷ []) []) g))
 only_term {A} b e g t f sum h =
-    subst (λ (y : Bool). IsSame f (plus sum (sum_over (cond y (t ∷ []) []) g))) (sym e) (subst (λ (z : Fraction). IsSame f (plus sum z)) (sym (plus_none (g t))) h)
+    subst (λ (y : Bool). HaveSameCross f (plus sum (sum_over (cond y (t ∷ []) []) g))) (sym e) (subst (λ (z : Fraction). HaveSameCross f (plus sum z)) (sym (plus_none (g t))) h)

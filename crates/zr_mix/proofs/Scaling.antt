@@ -1,7 +1,7 @@
 -- The sum of shares is the weighted sum over the total.
 use Rattle.std.proofs.Common.{◌≡◌, arith, ℤ, pos, ◌+ℤ◌, ◌*ℤ◌, ◌<ℤ◌}
 use Rattle.std.proofs.lemmas.Int.{ints}
-use Rattle.zr_base.specs.Fractions.{Fraction, IsSame, over, plus, ratio, times, whole}
+use Rattle.zr_base.specs.Fractions.{Fraction, HaveSameCross, over, plus, ratio, times, whole}
 use Rattle.zr_base.proofs.Ring.{spread}
 use Rattle.zr_base.proofs.Divisors.{cancel}
 
@@ -11,7 +11,7 @@ scaled_num fn fd wn wd w t n d positive e =
     cancel (fn *ℤ ((wd *ℤ d) *ℤ t)) ((wn *ℤ d +ℤ (w *ℤ n) *ℤ wd) *ℤ fd) t positive (simp spread (omega (arith, ints, s)))
 
 -- one share more
-pub one_share : (f sum x : Fraction) (w t : ℤ) → (pos 0) <ℤ t → IsSame f (plus (over sum t) (times (ratio w t) x)) → IsSame f (over (plus sum (times (whole w) x)) t)
+pub one_share : (f sum x : Fraction) (w t : ℤ) → (pos 0) <ℤ t → HaveSameCross f (plus (over sum t) (times (ratio w t) x)) → HaveSameCross f (over (plus sum (times (whole w) x)) t)
 one_share f sum x w t positive e =
     let one : pos 1 *ℤ x.den ≡ x.den = omega (arith, ints) in
     rw one (scaled_num f.num f.den sum.num sum.den w t x.num x.den positive e)

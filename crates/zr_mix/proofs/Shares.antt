@@ -4,7 +4,7 @@ use Rattle.std.proofs.Math.IntN.{zero-*ℤ}
 use Rattle.std.proofs.lemmas.List.{take_all, take_more}
 use Rattle.zr_base.specs.declared.step.Wide.{Wide}
 use Rattle.zr_base.specs.Steps.{◌>>=◌}
-use Rattle.zr_base.specs.Fractions.{Fraction, IsSame, over, plus, ratio, sum_over, times, whole}
+use Rattle.zr_base.specs.Fractions.{Fraction, HaveSameCross, over, plus, ratio, sum_over, times, whole}
 use Rattle.zr_base.specs.Lowest.{IsLowest, add_of}
 use Rattle.zr_base.specs.Points.{value_of}
 use Rattle.zr_base.proofs.Sames.{plus_left, plus_right, sum_over-snoc}
@@ -45,27 +45,27 @@ weighted_value v part = times (whole part.weight) (value_of part.point v)
 -- the sum of the shares of xs
 pub record MeanOf (total : ℤ) (v : ℕ) (xs : List Part) (sum : Fraction) : Type 0 where
   pub summed : Summed (share_made total v) (share_value total v) (whole (pos 0)) xs sum
-  pub mean : IsSame sum (over (sum_over xs (weighted_value v)) total)
+  pub mean : HaveSameCross sum (over (sum_over xs (weighted_value v)) total)
 
 module _ (total : ℤ) (v : ℕ) where
   pub none_of : MeanOf total v [] (whole (pos 0))
   none_of = record { summed = none_summed (share_made total v) (share_value total v) (whole (pos 0)) zero_lowest; mean = zero total }
     where
-      zero : (t : ℤ) → IsSame (whole (pos 0)) (over (whole (pos 0)) t)
+      zero : (t : ℤ) → HaveSameCross (whole (pos 0)) (over (whole (pos 0)) t)
       zero t = zero-*ℤ (pos 1 *ℤ t)
 
   module _ (positive : (pos 0) <ℤ total) (xs : List Part) (i : ℕ) (x : Part) (here : i < length xs) (is : x ≡ get_or xs i x) (sum : Fraction) (before : MeanOf total v (take i xs) sum) where
-    pub more_of : (a next : Fraction) → Ok a ≡ share_made total v x → IsSame a (share_value total v x) → IsLowest a → Ok next ≡ add_of sum a → IsSame next (plus sum a) → IsLowest next → MeanOf total v (take (i + 1) xs) next
+    pub more_of : (a next : Fraction) → Ok a ≡ share_made total v x → HaveSameCross a (share_value total v x) → IsLowest a → Ok next ≡ add_of sum a → HaveSameCross next (plus sum a) → IsLowest next → MeanOf total v (take (i + 1) xs) next
     more_of a next made same lowest adds e next_lowest =
         let y = get_or xs i x in
         let s = sum_over (take i xs) (weighted_value v) in
-        let same_y = subst (λ (z : Part). IsSame a (share_value total v z)) is same in
+        let same_y = subst (λ (z : Part). HaveSameCross a (share_value total v z)) is same in
         let right = plus_right next sum a (share_value total v y) lowest.ratio.positive e same_y in
         let left = plus_left next (share_value total v y) sum (over s total) before.summed.lowest.ratio.positive right before.mean in
         let more = one_share next s (value_of y.point v) y.weight total positive left in
         record {
           summed = more_summed (share_made total v) (share_value total v) (whole (pos 0)) xs i x here sum before.summed a next (sym (made ∙ ap (share_made total v) is)) same_y lowest (sym adds) e next_lowest;
-          mean = subst (λ (ys : List Part). IsSame next (over (sum_over ys (weighted_value v)) total)) (sym (take_more xs i x here)) (subst (λ (z : Fraction). IsSame next (over z total)) (sym (sum_over-snoc (take i xs) y (weighted_value v))) more);
+          mean = subst (λ (ys : List Part). HaveSameCross next (over (sum_over ys (weighted_value v)) total)) (sym (take_more xs i x here)) (subst (λ (z : Fraction). HaveSameCross next (over z total)) (sym (sum_over-snoc (take i xs) y (weighted_value v))) more);
         }
 
     pub term_wide : (w : Wide) → Err w ≡ share_made total v x → Err w ≡ mean_steps total (map part_of xs) v
@@ -78,5 +78,5 @@ module _ (total : ℤ) (v : ℕ) where
     pub made_of : Ok sum ≡ mean_steps total (map part_of xs) v
     made_of = sym (sum_made-map part_of (share total v) (whole (pos 0)) xs ∙ (all_summed (share_made total v) (share_value total v) (whole (pos 0)) xs i sum done all.summed).steps)
 
-    pub exact_of : IsSame sum (over (weighted (map part_of xs) (λ x. value_of x v)) total)
-    exact_of = subst (λ (z : Fraction). IsSame sum (over z total)) (sym (sum_over-map part_of (λ part. times (whole part.weight) (value_of part.point v)) xs)) (subst (λ (ys : List Part). IsSame sum (over (sum_over ys (weighted_value v)) total)) (take_all i xs done) all.mean)
+    pub exact_of : HaveSameCross sum (over (weighted (map part_of xs) (λ x. value_of x v)) total)
+    exact_of = subst (λ (z : Fraction). HaveSameCross sum (over z total)) (sym (sum_over-map part_of (λ part. times (whole part.weight) (value_of part.point v)) xs)) (subst (λ (ys : List Part). HaveSameCross sum (over (sum_over ys (weighted_value v)) total)) (take_all i xs done) all.mean)

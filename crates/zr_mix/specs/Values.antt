@@ -2,7 +2,7 @@
 use Rattle.std.specs.Prelude.{◌≡◌, ℕ, ◌<◌, ◌==◌, pos, ◌<ℤ◌, unsigned_abs, List, length, slice_index_or}
 use Rattle.std.specs.Int.{IsGcd}
 use Rattle.std.specs.List.{filter}
-use Rattle.zr_base.specs.Fractions.{Fraction, IsSame, plus, sum_over, times, whole}
+use Rattle.zr_base.specs.Fractions.{Fraction, HaveSameCross, plus, sum_over, times, whole}
 use Rattle.zr_base.specs.Terms.{coef_at}
 use Rattle.zr_base.specs.Lowest.{IsLowest}
 use Rattle.zr_game.specs.Players.{GameOf, PlayerOf}
@@ -15,13 +15,13 @@ use Rattle.zr_mix.specs.Steps.{place_of}
 -- f is the value in lowest terms
 pub record IsReduced (f value : Fraction) : Type 0 where
   pub lowest : IsLowest f
-  pub same : IsSame f value
+  pub same : HaveSameCross f value
 
 -- the same where f may have numbers of any size
 pub record IsInLowestTerms (f value : Fraction) : Type 0 where
   pub positive : (pos 0) <ℤ f.den
   pub coprime : IsGcd (unsigned_abs f.num) (unsigned_abs f.den) 1
-  pub same : IsSame f value
+  pub same : HaveSameCross f value
 
 -- item v of a list of fractions
 abbrev pub item_of : List Fraction → ℕ → Fraction

@@ -1,5 +1,5 @@
 ghost use Rattle.std.specs.Prelude.{ℕ, ℤ, List};
-ghost use Rattle.zr_base.specs.Fractions.{Fraction, IsSame};
+ghost use Rattle.zr_base.specs.Fractions.{Fraction, HaveSameCross};
 ghost use Rattle.zr_base.specs.Points.{PointOf, value_of};
 ghost use Rattle.zr_game.specs.Players.{GameOf, PlayerOf};
 ghost use Rattle.zr_game.specs.Forms.{IsGame, IsPlayer};
@@ -15,11 +15,11 @@ ghost use Rattle.zr_mix.specs.Checks.{ClaimHolds, HasClaims, IsClaimOf};
 /// a point costs the sum of slope times value.
 pub fn law_of_costs_by_means()
     ensures played { (game : GameOf) → IsGame game → (profile : ProfileOf) → IsProfile game profile → (i : ℕ) (player : PlayerOf) → IsPlayer game i player
-        → IsSame (expected_cost player i profile) (along_slope player profile (mean (strategy_of profile i))) }
+        → HaveSameCross (expected_cost player i profile) (along_slope player profile (mean (strategy_of profile i))) }
     ensures made { (game : GameOf) → IsGame game → (profile : ProfileOf) → IsProfile game profile → (i : ℕ) (player : PlayerOf) → IsPlayer game i player
         → (f : Fraction) → IsReduced f (along_slope player profile (mean (strategy_of profile i))) → IsReduced f (expected_cost player i profile) }
     ensures deviated { (game : GameOf) → IsGame game → (profile : ProfileOf) → IsProfile game profile → (i : ℕ) (player : PlayerOf) → IsPlayer game i player → (x : PointOf) → IsFeasible player x
-        → IsSame (expected_cost player i (deviation profile i x)) (along_slope player profile (value_of x)) }
+        → HaveSameCross (expected_cost player i (deviation profile i x)) (along_slope player profile (value_of x)) }
 {}
 
 /// A profile is an equilibrium where each player has a claim that holds at each feasible point, and

@@ -1,6 +1,6 @@
 ghost use Rattle.std.specs.Prelude.{◌≡◌, ◌<◌, ◌≤◌, ◌^◌, ◌==◌, ◌∷◌, [], ℕ, pos, length, IfOk, OnOk};
 ghost use Rattle.std.specs.List.{All, filter};
-ghost use Rattle.zr_base.specs.Fractions.{IsSame, plus, sum_over, whole};
+ghost use Rattle.zr_base.specs.Fractions.{HaveSameCross, plus, sum_over, whole};
 ghost use Rattle.zr_base.specs.Lowest.{IsLowest};
 ghost use Rattle.zr_base.specs.Terms.{coef_at};
 ghost use Rattle.zr_game.specs.Players.{PlayerOf, player_of};
@@ -66,7 +66,7 @@ fn with_terms(
     requires means { All (HasMean (game_of game.now) means.now) cross.now }
     requires lowest { IsLowest start }
     ensures steps { result ≡ sum_made (slope_term (game_of game.now) means.now) start (filter (λ t. t.own == v) cross.now) }
-    ensures exact { IfOk result (λ f. IsSame f (plus start (sum_over (filter (λ t. t.own == v) cross.now) (term_at (game_of game.now) means.now)))) }
+    ensures exact { IfOk result (λ f. HaveSameCross f (plus start (sum_over (filter (λ t. t.own == v) cross.now) (term_at (game_of game.now) means.now)))) }
     ensures lowest { IfOk result IsLowest }
 {
     let mut sum = start;
@@ -81,7 +81,7 @@ fn with_term(sum: Frac, t: &CrossTerm, v: usize, game: &Game, means: &[Frac]) ->
     requires mean { HasMean (game_of game.now) means.now t.now }
     requires lowest { IsLowest sum }
     ensures steps { result ≡ sum_made (slope_term (game_of game.now) means.now) sum (filter (λ t. t.own == v) (t.now ∷ [])) }
-    ensures exact { IfOk result (λ f. IsSame f (plus sum (sum_over (filter (λ t. t.own == v) (t.now ∷ [])) (term_at (game_of game.now) means.now)))) }
+    ensures exact { IfOk result (λ f. HaveSameCross f (plus sum (sum_over (filter (λ t. t.own == v) (t.now ∷ [])) (term_at (game_of game.now) means.now)))) }
     ensures lowest { IfOk result IsLowest }
 {
     if t.own as usize != v {

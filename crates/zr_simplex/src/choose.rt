@@ -1,6 +1,6 @@
 ghost use Rattle.std.specs.Prelude.{◌≡◌, ◌<◌, ◌⊎◌, ℕ, ℤ, pos, ◌<ℤ◌, ◌≤ℤ◌, ◌*ℤ◌, true, false, Some, MatchOption, length};
 ghost use Rattle.std.specs.Ordering.{int_cmp};
-ghost use Rattle.zr_base.specs.Fractions.{IsSame, ratio};
+ghost use Rattle.zr_base.specs.Fractions.{HaveSameCross, ratio};
 ghost use Rattle.zr_base.specs.Lowest.{IsRatio};
 ghost use Rattle.zr_simplex.specs.Programs.{IsLp, program_of};
 ghost use Rattle.zr_simplex.specs.BasicForms.{right_column, value_column};
@@ -178,7 +178,7 @@ fn compare_at(tableau: &Tableau, row: usize, other: usize, column: usize, at: us
 /// A number over another one, which is above zero.
 fn quotient_of(num: i128, den: i128) -> Frac
     requires { IsRatio num den }
-    ensures same { IsSame result (ratio num den) }
+    ensures same { HaveSameCross result (ratio num den) }
     ensures positive { pos 0 <ℤ result.den }
 {
     Frac::new(num, den).unwrap()

@@ -3,7 +3,7 @@ use Rattle.std.proofs.Common.{◌≡◌, ℕ, ◌<◌, arith, sym, ap, subst, �
 use Rattle.std.proofs.lemmas.Int.{ints}
 use Rattle.std.proofs.lemmas.List.{get_or_default}
 use Rattle.zr_base.proofs.Ring.{spread}
-use Rattle.zr_base.specs.Fractions.{Fraction, IsSame, plus, whole}
+use Rattle.zr_base.specs.Fractions.{Fraction, HaveSameCross, plus, whole}
 use Rattle.zr_base.specs.Points.{PointOf}
 use Rattle.zr_game.specs.declared.player.CrossTerm.{CrossTerm}
 use Rattle.zr_game.specs.Players.{GameOf, PlayerOf}
@@ -56,5 +56,5 @@ plus_plain a b n d m e p q =
     w ∙ omega (arith, ints)
 
 -- the sum of two whole values
-pub same_plus : (a b : ℤ) (f g : Fraction) → IsSame (whole a) f → IsSame (whole b) g → IsSame (whole (a +ℤ b)) (plus f g)
+pub same_plus : (a b : ℤ) (f g : Fraction) → HaveSameCross (whole a) f → HaveSameCross (whole b) g → HaveSameCross (whole (a +ℤ b)) (plus f g)
 same_plus a b f g p q = plus_plain a b f.num f.den g.num g.den p q

@@ -5,7 +5,7 @@ use Rattle.std.proofs.lemmas.Int.{by_lt_z, ints}
 use Rattle.std.proofs.lemmas.List.{append-nil}
 use Rattle.zr_base.proofs.Divisors.{cancel}
 use Rattle.zr_base.proofs.Worth.{le_times}
-use Rattle.zr_base.specs.Fractions.{Fraction, IsLess, IsSame}
+use Rattle.zr_base.specs.Fractions.{Fraction, IsLess, HaveSameCross}
 use Rattle.zr_base.specs.Points.{PointOf, num_of}
 use Rattle.zr_game.specs.Players.{GameOf, PlayerOf}
 use Rattle.zr_game.specs.Costs.{point_of}
@@ -49,7 +49,7 @@ value_order (count ∷ counts) xs [] zs d s t positive len p q low_y low_z same 
 value_order (count ∷ counts) xs (y ∷ ys) [] d s t positive len p q low_y low_z same before = absurd q
 value_order (count ∷ counts) [] (y ∷ ys) (z ∷ zs) d s t positive len p q low_y low_z same before = absurd (omega arith)
 value_order (count ∷ counts) (x ∷ xs) (y ∷ ys) (z ∷ zs) d s t positive len p q low_y low_z same before =
-    ⊎_elim first (λ (e : IsSame (record { num = x; den = d }) (record { num = z; den = pos 1 }) × IsBefore (map (λ n. record { num = n; den = d }) xs ++ s) (map (λ n. record { num = n; den = pos 1 }) zs ++ t)). later e.0 (value_order counts xs ys zs d s t positive (omega arith) p.1 q.1 (λ k e h. low_y (suc k) e (omega arith)) (λ k e h. low_z (suc k) e (omega arith)) (λ v. same (suc v)) e.1)) before
+    ⊎_elim first (λ (e : HaveSameCross (record { num = x; den = d }) (record { num = z; den = pos 1 }) × IsBefore (map (λ n. record { num = n; den = d }) xs ++ s) (map (λ n. record { num = n; den = pos 1 }) zs ++ t)). later e.0 (value_order counts xs ys zs d s t positive (omega arith) p.1 q.1 (λ k e h. low_y (suc k) e (omega arith)) (λ k e h. low_z (suc k) e (omega arith)) (λ v. same (suc v)) e.1)) before
   where
     low : ((pos 0) ≤ℤ y) × ((pos 0) ≤ℤ z)
     low = (low_y 0 (pos 0) (omega arith), low_z 0 (pos 0) (omega arith))
@@ -61,7 +61,7 @@ value_order (count ∷ counts) (x ∷ xs) (y ∷ ys) (z ∷ zs) d s t positive l
         let b = low in
         inl (leading (unsigned_abs y) (unsigned_abs z) (product counts) (number_of (strides_of counts) (map unsigned_abs ys)) (number_of (strides_of counts) (map unsigned_abs zs)) (number_below counts (map unsigned_abs ys) p.1) (omega (arith, ints, m, b)))
 
-    later : IsSame (record { num = x; den = d }) (record { num = z; den = pos 1 }) → (number_of (strides_of counts) (map unsigned_abs ys) < number_of (strides_of counts) (map unsigned_abs zs)) ⊎ ((number_of (strides_of counts) (map unsigned_abs ys) ≡ number_of (strides_of counts) (map unsigned_abs zs)) × IsBefore s t) → (number_of (strides_of (count ∷ counts)) (map unsigned_abs (y ∷ ys)) < number_of (strides_of (count ∷ counts)) (map unsigned_abs (z ∷ zs))) ⊎ ((number_of (strides_of (count ∷ counts)) (map unsigned_abs (y ∷ ys)) ≡ number_of (strides_of (count ∷ counts)) (map unsigned_abs (z ∷ zs))) × IsBefore s t)
+    later : HaveSameCross (record { num = x; den = d }) (record { num = z; den = pos 1 }) → (number_of (strides_of counts) (map unsigned_abs ys) < number_of (strides_of counts) (map unsigned_abs zs)) ⊎ ((number_of (strides_of counts) (map unsigned_abs ys) ≡ number_of (strides_of counts) (map unsigned_abs zs)) × IsBefore s t) → (number_of (strides_of (count ∷ counts)) (map unsigned_abs (y ∷ ys)) < number_of (strides_of (count ∷ counts)) (map unsigned_abs (z ∷ zs))) ⊎ ((number_of (strides_of (count ∷ counts)) (map unsigned_abs (y ∷ ys)) ≡ number_of (strides_of (count ∷ counts)) (map unsigned_abs (z ∷ zs))) × IsBefore s t)
     later h rest =
         let e = cancel y z d positive (sym (same 0) ∙ h) in
         let a : unsigned_abs y * product counts ≡ unsigned_abs z * product counts = ap (λ n. unsigned_abs n * product counts) e in

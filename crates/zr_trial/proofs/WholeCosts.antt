@@ -4,7 +4,7 @@ use Rattle.std.proofs.lemmas.Int.{ints, unsigned_abs-mul}
 use Rattle.std.proofs.lemmas.Nat.{mul-le}
 use Rattle.std.proofs.lemmas.List.{get_or_past, take_all, take_more}
 use Rattle.std.proofs.lemmas.Bool.{cases_lt}
-use Rattle.zr_base.specs.Fractions.{Fraction, IsSame, sum_over, times, whole}
+use Rattle.zr_base.specs.Fractions.{Fraction, HaveSameCross, sum_over, times, whole}
 use Rattle.zr_base.specs.Points.{PointOf, num_of, value_of}
 use Rattle.zr_base.specs.Terms.{Terms}
 use Rattle.zr_base.proofs.Worth.{Worth, sum_list, worth-multiple, worth-plus, worth-times, worth-zero}
@@ -66,10 +66,10 @@ pub whole_at : (x : PointOf) → x.den ≡ pos 1 → IsWholeAt x x
 whole_at x e v = record { below = rw e (omega (arith, ints)); equal = rw e refl }
 
 -- what has this whole value
-pub same_of_worth : (f : Fraction) (z : ℤ) → Worth (pos 1) f z → IsSame (whole z) f
+pub same_of_worth : (f : Fraction) (z : ℤ) → Worth (pos 1) f z → HaveSameCross (whole z) f
 same_of_worth f z w = let e = w.equal in omega (arith, ints, e)
 
-pub worth_of_same_whole : (f : Fraction) (z y : ℤ) → IsSame (whole z) f → Worth (pos 1) f y → z ≡ y
+pub worth_of_same_whole : (f : Fraction) (z y : ℤ) → HaveSameCross (whole z) f → Worth (pos 1) f y → z ≡ y
 worth_of_same_whole f z y e w =
     let s : z *ℤ f.den ≡ y *ℤ f.den = e ∙ w.equal in
     cancel z y f.den w.below s

@@ -1,7 +1,7 @@
 -- The first pure equilibrium, in the order of the values that it gives the variables.
 use Rattle.std.specs.Prelude.{◌≡◌, pos, List, [], ◌∷◌, ◌++◌, map, ◌⊎◌}
 use Rattle.std.specs.List.{All}
-use Rattle.zr_base.specs.Fractions.{Fraction, IsSame, IsLess}
+use Rattle.zr_base.specs.Fractions.{Fraction, HaveSameCross, IsLess}
 use Rattle.zr_base.specs.Points.{PointOf}
 use Rattle.zr_game.specs.Players.{GameOf}
 use Rattle.zr_game.specs.Profiles.{Profile, Strategy, IsOfKind, surely}
@@ -29,7 +29,7 @@ profile_values (parts ∷ rest) = strategy_values parts ++ profile_values rest
 abbrev pub IsBefore : List Fraction → List Fraction → Type 0
 IsBefore [] ys = ⊥
 IsBefore (x ∷ xs) [] = ⊥
-IsBefore (x ∷ xs) (y ∷ ys) = IsLess x y ⊎ (IsSame x y × IsBefore xs ys)
+IsBefore (x ∷ xs) (y ∷ ys) = IsLess x y ⊎ (HaveSameCross x y × IsBefore xs ys)
 
 -- the points are whole, they are an equilibrium, and no pure equilibrium comes before it
 pub record IsFirstEquilibrium (game : GameOf) (points : List PointOf) : Type 0 where

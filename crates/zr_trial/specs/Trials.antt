@@ -1,7 +1,7 @@
 -- Costs of all tuples of points, and the tuples that are best for all players.
 use Rattle.std.specs.Prelude.{◌≡◌, ℕ, ◌+◌, ◌*◌, ◌/◌, ◌%◌, ◌^◌, ◌<◌, ℤ, pos, ◌≤ℤ◌, List, length, unsigned_abs, slice_index_or, slice_set}
 use Rattle.std.specs.List.{All}
-use Rattle.zr_base.specs.Fractions.{IsSame, whole}
+use Rattle.zr_base.specs.Fractions.{HaveSameCross, whole}
 use Rattle.zr_base.specs.Points.{PointOf}
 use Rattle.zr_game.specs.Players.{GameOf, PlayerOf}
 use Rattle.zr_game.specs.Forms.{IsNumber, IsPlayer}
@@ -31,7 +31,7 @@ IsSmallCost z = unsigned_abs z < 2 ^ 100
 
 -- player i's cost at tuple n, and the line of tuples that differ in its point alone
 pub record IsEntry (game : GameOf) (lists : List (List PointOf)) (n i : ℕ) (paid : ℤ) (first : ℕ) : Type 0 where
-  pub cost : (player : PlayerOf) → IsPlayer game i player → IsSame (whole paid) (cost_of player i (picked lists (tuple_of lists n)))
+  pub cost : (player : PlayerOf) → IsPlayer game i player → HaveSameCross (whole paid) (cost_of player i (picked lists (tuple_of lists n)))
   pub line : first ≡ line_of lists n i * length game + i
 
 -- entry n * players + i is that of player i at tuple n

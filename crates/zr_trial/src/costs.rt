@@ -1,7 +1,7 @@
 //! Costs at whole points, as whole numbers.
 ghost use Rattle.std.specs.Prelude.{◌≡◌, ◌<◌, ◌≤◌, ◌*ℤ◌, length, unsigned_abs};
 ghost use Rattle.std.specs.List.{All};
-ghost use Rattle.zr_base.specs.Fractions.{IsSame, plus, sum_over, times, whole};
+ghost use Rattle.zr_base.specs.Fractions.{HaveSameCross, plus, sum_over, times, whole};
 ghost use Rattle.zr_base.specs.Points.{num_of, value_of};
 ghost use Rattle.zr_game.specs.Games.{game_of};
 ghost use Rattle.zr_game.specs.Players.{PlayerOf};
@@ -19,7 +19,7 @@ pub fn cost(game: &Game, i: usize, lists: &[Vec<Point>], places: &[usize]) -> i1
     requires lists { AreAllChoices (game_of game.now) (lists_of lists.now) }
     requires places { ArePlaces (lengths (lists_of lists.now)) places.now }
     requires player { i < length (game_of game.now) }
-    ensures { (player : PlayerOf) → IsPlayer (game_of game.now) i player → IsSame (whole result) (cost_of player i (picked (lists_of lists.now) places.now)) }
+    ensures { (player : PlayerOf) → IsPlayer (game_of game.now) i player → HaveSameCross (whole result) (cost_of player i (picked (lists_of lists.now) places.now)) }
 {
     let player = &game.players[i];
     let own = own_cost(player.cost.as_slice(), point_at(lists, places, i));
@@ -30,7 +30,7 @@ fn own_cost(terms: &[(u32, i64)], point: &Point) -> i128
     requires whole { IsWholePoint point.now }
     requires terms { AreTerms (length point.now.num) terms.now }
     requires few { length terms.now ≤ 65536 }
-    ensures exact { IsSame (whole result) (sum_over terms.now (λ t. times (whole t.1) (value_of point.now t.0))) }
+    ensures exact { HaveSameCross (whole result) (sum_over terms.now (λ t. times (whole t.1) (value_of point.now t.0))) }
     ensures small { IsSmallCost result }
 {
     let mut sum = 0;
@@ -57,7 +57,7 @@ fn cross_cost(terms: &[CrossTerm], i: usize, lists: &[Vec<Point>], places: &[usi
     requires player { i < length lists.now }
     requires terms { All (IsCrossTerm (picked (lists_of lists.now) places.now) i) terms.now }
     requires few { length terms.now ≤ 65536 }
-    ensures exact { IsSame (whole result) (sum_over terms.now (λ t. times (whole t.coef) (times (value_of (point_of (picked (lists_of lists.now) places.now) i) t.own) (value_of (point_of (picked (lists_of lists.now) places.now) t.player) t.var)))) }
+    ensures exact { HaveSameCross (whole result) (sum_over terms.now (λ t. times (whole t.coef) (times (value_of (point_of (picked (lists_of lists.now) places.now) i) t.own) (value_of (point_of (picked (lists_of lists.now) places.now) t.player) t.var)))) }
     ensures small { IsSmallCost result }
 {
     let mut sum = 0;

@@ -1,5 +1,5 @@
 use Rattle.std.proofs.Common.{◌≡◌, IfOk, subst}
-use Rattle.zr_base.specs.Fractions.{IsSame}
+use Rattle.zr_base.specs.Fractions.{HaveSameCross}
 use Rattle.zr_game.specs.Players.{PlayerOf, player_of}
 use Rattle.zr_game.specs.Forms.{IsPlayer}
 use Rattle.zr_game.specs.Games.{game_of}
@@ -23,7 +23,7 @@ player_cost-requires c = record {
 pub returns-clause-exact : goal.returns-clause-exact
 returns-clause-exact c player is =
     let s = one (game_of c.args.game.now) c.args.i (player_of c.index-player.result.now) player (is_player ((goal.at.returns-clause-exact c).After-index-player)) is in
-    subst (λ (p : PlayerOf). IfOk c.player_cost.result (λ f. IsSame f (cost_of p c.args.i c.args.points.now))) s c.player_cost.ensures.exact
+    subst (λ (p : PlayerOf). IfOk c.player_cost.result (λ f. HaveSameCross f (cost_of p c.args.i c.args.points.now))) s c.player_cost.ensures.exact
 
 pub returns-clause-steps : goal.returns-clause-steps
 returns-clause-steps c player is =

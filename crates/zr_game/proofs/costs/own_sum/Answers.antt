@@ -2,7 +2,7 @@ use Rattle.std.proofs.Common.{rules, pos, get_or, FitsSigned, subst, sym, []}
 use Rattle.std.specs.Int.{w64}
 use Rattle.std.proofs.lemmas.Int.{to_z-of_z}
 use Rattle.std.proofs.lemmas.Result.{err_from_is_err_and}
-use Rattle.zr_base.specs.Fractions.{Fraction, IsSame, times, sum_over, whole}
+use Rattle.zr_base.specs.Fractions.{Fraction, HaveSameCross, times, sum_over, whole}
 use Rattle.zr_base.specs.Points.{value_of}
 use Rattle.zr_game.specs.CostSteps.{own_term}
 use Rattle.zr_game.proofs.CostSums.{all_summed, more_summed, none_plus, none_summed, Summed, zero_lowest, wide_sum, wide_term}
@@ -34,4 +34,4 @@ returns-clause-steps c = sym (all_summed (own_term c.args.point.now) (λ t. time
 
 pub returns-clause-exact : goal.returns-clause-exact
 returns-clause-exact c =
-    subst (λ (s : Fraction). IsSame c.loop-v.sum s) (none_plus (sum_over c.args.cost.now (λ t. times (whole t.1) (value_of c.args.point.now t.0)))) (all_summed (own_term c.args.point.now) (λ t. times (whole t.1) (value_of c.args.point.now t.0)) (whole (pos 0)) c.args.cost.now c.loop-v.v-index c.loop-v.sum c.loop-v-test.false c.loop-v.invariant).exact
+    subst (λ (s : Fraction). HaveSameCross c.loop-v.sum s) (none_plus (sum_over c.args.cost.now (λ t. times (whole t.1) (value_of c.args.point.now t.0)))) (all_summed (own_term c.args.point.now) (λ t. times (whole t.1) (value_of c.args.point.now t.0)) (whole (pos 0)) c.args.cost.now c.loop-v.v-index c.loop-v.sum c.loop-v-test.false c.loop-v.invariant).exact

@@ -1,6 +1,6 @@
 use Rattle.std.proofs.Common.{◌≡◌, ◌∙◌, arith, sym, subst, ap₂, pos, length}
 use Rattle.std.proofs.lemmas.Result.{err_from_is_err_and}
-use Rattle.zr_base.specs.Fractions.{Fraction, IsSame, times, whole}
+use Rattle.zr_base.specs.Fractions.{Fraction, HaveSameCross, times, whole}
 use Rattle.zr_base.specs.Lowest.{mul_of}
 use Rattle.zr_base.proofs.SumSteps.{get_or_default}
 use Rattle.zr_game.proofs.CostSums.{reduce_whole}
@@ -35,7 +35,7 @@ returns-in_err-sum-clause-steps c =
 pub loop-v-preserved : goal.loop-v-preserved
 loop-v-preserved c =
     let at = (goal.at.loop-v-preserved c).After-index-mean-v in
-    let same = subst (λ (x : Fraction). IsSame c.in_ok-term.term x) (ap₂ times (slope_item at) (mean_item at)) c.in_ok-term.ensures.exact in
+    let same = subst (λ (x : Fraction). HaveSameCross c.in_ok-term.term x) (ap₂ times (slope_item at) (mean_item at)) c.in_ok-term.ensures.exact in
     more_of c.args.slope.now c.args.mean.now c.loop-v.v c.loop-v.sum c.loop-v.invariant c.requires c.loop-v-test.true c.in_ok-term.term c.in_ok-sum.sum (c.in_ok-term.ensures.steps ∙ ap₂ mul_of (slope_item at) (mean_item at)) same c.in_ok-term.ensures.lowest c.in_ok-sum.ensures.steps c.in_ok-sum.ensures.exact c.in_ok-sum.ensures.lowest
 
 pub returns-clause-steps : goal.returns-clause-steps

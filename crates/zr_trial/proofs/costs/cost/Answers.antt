@@ -1,7 +1,7 @@
 use Rattle.std.proofs.Common.{arith, rules, sym, subst, length, FitsSigned, ◌+ℤ◌}
 use Rattle.std.specs.Int.{w128}
 use Rattle.std.proofs.lemmas.Int.{fits_signed_from_abs, ints, to_z-of_z}
-use Rattle.zr_base.specs.Fractions.{IsSame, whole}
+use Rattle.zr_base.specs.Fractions.{HaveSameCross, whole}
 use Rattle.zr_game.specs.Games.{game_of}
 use Rattle.zr_game.specs.Players.{PlayerOf, player_of}
 use Rattle.zr_game.specs.Forms.{AreTerms, IsCoefficient, IsPlayer, IsPlayerForm}
@@ -60,5 +60,5 @@ returns c player is =
     let h : FitsSigned w128 (c.own_cost-own.result +ℤ c.cross_cost.result) = fits_signed_from_abs w128 _ (omega (arith, ints, c.own_cost-own.ensures.small, c.cross_cost.ensures.small)) in
     let own = rw (c.as_slice.ensures, c.point_at.ensures) at c.own_cost-own.ensures.exact in
     let cross = rw c.deref.ensures.value at c.cross_cost.ensures.exact in
-    let both : IsSame (whole (c.own_cost-own.result +ℤ c.cross_cost.result)) (cost_of (player_of c.index-player.result.now) c.args.i points) = same_plus c.own_cost-own.result c.cross_cost.result _ _ own cross in
-    simp to_z-of_z (subst (λ (p : PlayerOf). IsSame (whole (c.own_cost-own.result +ℤ c.cross_cost.result)) (cost_of p c.args.i points)) s both)
+    let both : HaveSameCross (whole (c.own_cost-own.result +ℤ c.cross_cost.result)) (cost_of (player_of c.index-player.result.now) c.args.i points) = same_plus c.own_cost-own.result c.cross_cost.result _ _ own cross in
+    simp to_z-of_z (subst (λ (p : PlayerOf). HaveSameCross (whole (c.own_cost-own.result +ℤ c.cross_cost.result)) (cost_of p c.args.i points)) s both)

@@ -2,7 +2,7 @@ use Rattle.std.proofs.Common.{◌≡◌, ◌<◌, ◌+◌, ◌-◌, ◌*◌, ◌
 use Rattle.std.proofs.lemmas.Int.{to_z-of_z}
 use Rattle.std.specs.Int.{w128}
 use Rattle.std.proofs.lemmas.List.{length_push}
-use Rattle.zr_base.specs.Fractions.{IsSame, whole}
+use Rattle.zr_base.specs.Fractions.{HaveSameCross, whole}
 use Rattle.zr_game.specs.Costs.{cost_of}
 use Rattle.zr_game.specs.Games.{game_of}
 use Rattle.zr_trial.specs.Numbering.{ArePlaces}
@@ -53,7 +53,7 @@ entry c =
     let e : c.args.n - get_or c.args.places.now c.loop-i.i 0 * get_or c.args.strides.now c.loop-i.i 0 ≡ line_of lists c.args.n c.loop-i.i = omega (arith, f) in
     let l : length c.args.lists.now ≡ length (game_of c.args.game.now) = sym (lists_length c.args.lists.now) ∙ c.requires.lists.len in
     record {
-      cost = λ player is. subst (λ ps. IsSame (whole c.cost.result) (cost_of player c.loop-i.i (picked lists ps))) c.requires.places (c.cost.ensures player is);
+      cost = λ player is. subst (λ ps. HaveSameCross (whole c.cost.result) (cost_of player c.loop-i.i (picked lists ps))) c.requires.places (c.cost.ensures player is);
       line = ap₂ (λ (m k : ℕ). m * k + c.loop-i.i) e l;
     }
 
