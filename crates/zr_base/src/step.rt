@@ -2,9 +2,12 @@ ghost use Rattle.std.specs.Prelude.{◌≡◌, ◌*ℤ◌, ◌-ℤ◌, IfOk};
 ghost use Rattle.zr_base.specs.Steps.{IsNarrow, cross_of, narrow, narrow_cross};
 ghost use Rattle.zr_base.specs.Sums.{sum_step};
 
+use thiserror::Error;
+
 /// One step of arithmetic, `left.0 * left.1 - right.0 * right.1`, one of whose products, or whose
 /// result, lies outside `±(2^127 - 1)`.
-#[derive(Clone, Copy, Debug, PartialEq, Eq)]
+#[derive(Clone, Copy, Debug, PartialEq, Eq, Error)]
+#[error("too wide: the products of {left:?} and of {right:?}, or their difference")]
 pub struct Wide {
     pub left: (i128, i128),
     pub right: (i128, i128),
