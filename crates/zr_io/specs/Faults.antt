@@ -1,4 +1,4 @@
--- Counts of faults. A count is a `u64`, so it stands still at 2^64 - 1.
+-- Counts. A count is a `u64`, so it stands still at 2^64 - 1.
 use Rattle.std.specs.Prelude.{ℕ, ◌+◌, ◌-◌, ◌^◌, ◌≤◌, min}
 
 -- a count after one more

@@ -30,6 +30,10 @@ content_of shelf = look_up (pairs_of shelf.items.items)
 abbrev pub shelf_faults : MemShelf → ℕ
 shelf_faults shelf = shelf.calls.faults
 
+-- how many takes a shelf in memory had
+abbrev pub shelf_takes : MemShelf → ℕ
+shelf_takes shelf = shelf.calls.made
+
 -- the calls of a sink in memory
 abbrev pub sink_calls : MemSink → Calls
 sink_calls sink = sink.calls

@@ -12,17 +12,20 @@ pub struct FileShelf<'a, R> {
     alloc: Global,
     rt: &'a R,
     faults: u64,
+    takes: u64,
 }
 
 impl<'a, R: Files + Input> FileShelf<'a, R> {
     /// A shelf over the files and the standard input of `rt`.
     pub fn new(alloc: Global, rt: &'a R) -> FileShelf<'a, R>
-        ensures { ⟦<FileShelf<'a, R> as Shelf>⟧.faults_of result ≡ 0 }
+        ensures faults { ⟦<FileShelf<'a, R> as Shelf>⟧.faults_of result ≡ 0 }
+        ensures takes { ⟦<FileShelf<'a, R> as Shelf>⟧.takes_of result ≡ 0 }
     {
         FileShelf {
             alloc,
             rt,
             faults: 0,
+            takes: 0,
         }
     }
 }
@@ -71,10 +74,13 @@ impl<'a, R: Files + Input> Shelf for FileShelf<'a, R> {
 
     ghost faults_of = { λ shelf. shelf.faults };
 
+    ghost takes_of = { λ shelf. shelf.takes };
+
     /// Reads by a buffer of 4096 bytes, and never holds more than `limit` bytes of the content
     /// beside it: the room that is left is checked before bytes are kept. The vector may reserve
     /// more room than it fills.
     fn take(&mut self, name: &str, limit: usize) -> Result<Vec<u8>, ShelfError> {
+        self.takes = self.takes.saturating_add(1);
         let taken = if name == "-" {
             read_to_end(self.alloc, &mut self.rt.reader(), limit)
         } else {

@@ -1,6 +1,7 @@
 //! What goes in and out, and what work may cost: shelves give named contents, sinks take bytes, and
 //! a purse counts units of work up to its limit. A shelf and a sink count their faults, so that a
-//! caller who reports a fault can show that there was one.
+//! caller who reports a fault can show that there was one; a shelf counts its takes too, which shows
+//! at which of them it was.
 #![tactic(auto)]
 
 mod calls;

@@ -1,7 +1,7 @@
 ghost use Rattle.std.specs.Prelude.{◌≡◌, ◌≢◌, ℕ, ◌≤◌, ◌<◌, ◌⊎◌, Err, Some, None, IfOk, IfSome, IsOk, length, option_map};
 ghost use Rattle.zr_io.specs.Contents.{Bytes, HoldsMore, look_up, pairs_of};
 ghost use Rattle.zr_io.specs.Faults.{next_count};
-ghost use Rattle.zr_io.specs.Memory.{IsListed, Starts, CountsCall, shelf_calls, shelf_faults, content_of};
+ghost use Rattle.zr_io.specs.Memory.{IsListed, Starts, CountsCall, shelf_calls, shelf_faults, shelf_takes, content_of};
 
 use crate::calls::Calls;
 use crate::shelf::{Shelf, ShelfError};
@@ -21,6 +21,7 @@ impl MemShelf {
     pub fn new(alloc: Global, items: Vec<(String, Vec<u8>)>, fails: Vec<u64>) -> MemShelf
         ensures contents { ⟦<MemShelf as Shelf>⟧.contents result ≡ Some (look_up (pairs_of items.items)) }
         ensures faults { ⟦<MemShelf as Shelf>⟧.faults_of result ≡ 0 }
+        ensures takes { ⟦<MemShelf as Shelf>⟧.takes_of result ≡ 0 }
         ensures fails { Starts (shelf_calls result) fails.items }
     {
         MemShelf {
@@ -48,6 +49,8 @@ impl Shelf for MemShelf {
 
     ghost faults_of = { shelf_faults };
 
+    ghost takes_of = { shelf_takes };
+
     fn take(&mut self, name: &str, limit: usize) -> Result<Vec<u8>, ShelfError>
         ensures within { IfOk result (λ v. length v.items ≤ limit) }
         ensures whole { IfOk result (λ v. content_of self.old name.now ≡ Some v.items) }
@@ -57,6 +60,7 @@ impl Shelf for MemShelf {
         ensures lacks { content_of self.old name.now ≡ None → result ≡ Err ShelfError.Failed }
         ensures stays { content_of self.new ≡ content_of self.old }
         ensures grows { shelf_faults self.old ≤ shelf_faults self.new }
+        ensures counts { shelf_takes self.new ≡ next_count (shelf_takes self.old) }
 
         // When each answer comes, and what it counts.
         ensures listed { IsListed (shelf_calls self.old) → result ≡ Err ShelfError.Failed }
@@ -65,7 +69,7 @@ impl Shelf for MemShelf {
         ensures fits { (v : Bytes) → ¬ IsListed (shelf_calls self.old) → content_of self.old name.now ≡ Some v
             → length v ≤ limit → IsOk result ⊎ (result ≡ Err ShelfError.NoMemory) }
         ensures quiet { result ≢ Err ShelfError.Failed → shelf_faults self.new ≡ shelf_faults self.old }
-        ensures counts { CountsCall (shelf_calls self.old) (shelf_calls self.new) }
+        ensures calls { CountsCall (shelf_calls self.old) (shelf_calls self.new) }
     {
         if self.calls.begin() {
             return Err(ShelfError::Failed);

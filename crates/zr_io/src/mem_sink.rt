@@ -57,7 +57,7 @@ impl Sink for MemSink {
         ensures others { ¬ IsListed (sink_calls self.old)
             → (result ≡ Ok (length bytes.now)) ⊎ (result ≡ Err SinkError.NoMemory) }
         ensures quiet { result ≢ Err SinkError.Failed → sink_faults self.new ≡ sink_faults self.old }
-        ensures counts { CountsCall (sink_calls self.old) (sink_calls self.new) }
+        ensures calls { CountsCall (sink_calls self.old) (sink_calls self.new) }
     {
         if self.calls.begin() {
             return Err(SinkError::Failed);

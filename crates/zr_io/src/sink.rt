@@ -3,12 +3,16 @@ ghost use Rattle.zr_io.specs.Contents.{Bytes};
 ghost use Rattle.zr_io.specs.Faults.{Rose};
 ghost use Rattle.zr_io.specs.Written.{Appends, AppendsPrefix};
 
+use thiserror::Error;
+
 /// Why a sink didn't take the whole piece.
-#[derive(Clone, Copy, Debug, PartialEq, Eq, Drop)]
+#[derive(Clone, Copy, Debug, PartialEq, Eq, Drop, Error)]
 pub enum SinkError {
     /// The piece can't be written. The sink counts this as a fault.
+    #[error("the piece can't be written")]
     Failed,
     /// There is no memory for the piece.
+    #[error("there is no memory for the piece")]
     NoMemory,
 }
 
