@@ -13,7 +13,8 @@ pub mod MeanLaws
 pub mod CostSums
 pub mod CostPoints
 pub mod Checks
-pub mod CrossOrder
+pub mod Sorted
+pub mod TermOrders
 pub mod GameForms
 pub mod WholePoints
 pub mod PureEquilibria
