@@ -6,8 +6,8 @@ use Rattle.std.proofs.lemmas.Int.{ints}
 use Rattle.std.specs.Int.{◌∣◌}
 use Rattle.zr_base.specs.Sums.{sum_to}
 use Rattle.zr_base.proofs.Dense.{sum_to_same}
-use Rattle.zr_simplex.specs.Programs.{Program}
-use Rattle.zr_simplex.specs.BasicForms.{CombinesEquations, IsReduced, IsBasicForm}
+use Rattle.zr_basis.specs.Programs.{Program}
+use Rattle.zr_basis.specs.BasicForms.{CombinesEquations, IsReduced, IsBasicForm}
 use Rattle.zr_simplex.specs.Dues.{IsComplete}
 use Rattle.zr_simplex.specs.RowSteps.{IsStart}
 use Rattle.zr_simplex.proofs.Sums.{sum_to-append, sum_to-all_zero, sum_to-single}

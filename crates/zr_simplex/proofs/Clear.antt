@@ -5,7 +5,7 @@ use Rattle.zr_base.specs.Steps.{cross_of, IsNarrow}
 use Rattle.zr_base.proofs.CrossLaws.{cross_ok}
 use Rattle.zr_base.proofs.Ring.{spread}
 use Rattle.zr_base.proofs.SumSteps.{get_or_default}
-use Rattle.zr_simplex.specs.BasicForms.{IsReduced}
+use Rattle.zr_basis.specs.BasicForms.{IsReduced}
 use Rattle.zr_simplex.specs.RowSteps.{IsQuotient, IsCleared}
 use Rattle.zr_simplex.specs.Programs.{numbers}
 use Rattle.zr_simplex.specs.StuckSteps.{AreCoprimeParts}

@@ -11,8 +11,9 @@ use Rattle.zr_base.proofs.SumSteps.{get_or_default}
 use Rattle.zr_lin.specs.DenseRows.{IsBelow}
 use Rattle.zr_lin.specs.Ineqs.{IneqHolds, IneqOf, dense, ineq_of, row_at}
 use Rattle.zr_simplex.specs.declared.program.Lp.{Lp}
-use Rattle.zr_simplex.specs.Programs.{program_of, lp_rows, IsLp, numbers, aim_at}
-use Rattle.zr_simplex.specs.BasicForms.{value_column, right_column}
+use Rattle.zr_basis.specs.Programs.{aim_at}
+use Rattle.zr_simplex.specs.Programs.{program_of, lp_rows, IsLp, numbers}
+use Rattle.zr_basis.specs.BasicForms.{value_column, right_column}
 use Rattle.zr_simplex.specs.Dues.{AreSlacks, IsTableau}
 use Rattle.zr_simplex.specs.Tableaus.{Equations, basis_of, form_of}
 use Rattle.zr_simplex.specs.Answers.{weighed, signed, IsLow, AreListed, IsFeasible, IsBest, IsEmpty, IsUnbounded, IsBasicPoint, IsBasicRay, AreOf}

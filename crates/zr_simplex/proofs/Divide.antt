@@ -8,7 +8,7 @@ use Rattle.std.specs.Int.{IsGcd, ◌∣◌}
 use Rattle.zr_base.specs.Steps.{IsNarrow}
 use Rattle.zr_base.proofs.Divisors.{positive_factor, cancel}
 use Rattle.zr_base.proofs.Ring.{neg-mul_right}
-use Rattle.zr_simplex.specs.BasicForms.{IsReduced}
+use Rattle.zr_basis.specs.BasicForms.{IsReduced}
 use Rattle.zr_simplex.specs.Programs.{numbers}
 use Rattle.zr_simplex.specs.RowSteps.{IsGreatest}
 

@@ -6,8 +6,8 @@ use Rattle.zr_base.proofs.Ring.{spread, neg-mul_left, mul-add_left, mul_assoc}
 use Rattle.zr_base.proofs.Divisors.{mul_positive}
 use Rattle.zr_base.specs.Sums.{sum_to}
 use Rattle.zr_base.proofs.Dense.{sum_to_same, sum_to-add, sum_to-mul}
-use Rattle.zr_simplex.specs.Programs.{Program, aim_at}
-use Rattle.zr_simplex.specs.BasicForms.{value_column, right_column, CombinesEquations, IsBasicForm, IsBasicSolution, IsBasicDirection}
+use Rattle.zr_basis.specs.Programs.{Program, aim_at}
+use Rattle.zr_basis.specs.BasicForms.{value_column, right_column, CombinesEquations, IsBasicForm, IsBasicSolution, IsBasicDirection}
 use Rattle.zr_simplex.specs.Dues.{AreSlacks, IsComplete}
 use Rattle.zr_simplex.proofs.Signs.{nonnegative_mul, nonnegative_factor, negative_factor}
 use Rattle.zr_simplex.proofs.Sums.{sum_to-append, sum_to-swap, sum_to-all_zero, sum_to-single, sum_to-double, sum_to-sub, sum_to-mul_right}

@@ -1,7 +1,8 @@
 -- What the kept equations say of their parts.
 use Rattle.std.proofs.Common.{◌≡◌, ◌≢◌, ℕ, arith, refl, ℤ, pos, zero, suc, All, [], ◌∷◌, List, length, ⊎_elim}
 use Rattle.std.proofs.lemmas.Bool.{cases_eq}
-use Rattle.zr_simplex.specs.Programs.{Program, numbers}
+use Rattle.zr_basis.specs.Programs.{Program}
+use Rattle.zr_simplex.specs.Programs.{numbers}
 use Rattle.zr_simplex.specs.RowSteps.{IsSolved}
 use Rattle.zr_simplex.specs.Tableaus.{Equations, basis_of, form_of}
 use Rattle.zr_simplex.specs.Dues.{IsTableau}

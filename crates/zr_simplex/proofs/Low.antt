@@ -4,8 +4,8 @@ use Rattle.std.proofs.lemmas.Int.{ints}
 use Rattle.std.proofs.lemmas.Bool.{cases_eq}
 use Rattle.zr_base.proofs.Ring.{spread}
 use Rattle.zr_base.proofs.Divisors.{cancel, mul_positive}
-use Rattle.zr_simplex.specs.Programs.{Program}
-use Rattle.zr_simplex.specs.BasicForms.{IsBasicForm, IsBasicDirection}
+use Rattle.zr_basis.specs.Programs.{Program}
+use Rattle.zr_basis.specs.BasicForms.{IsBasicForm, IsBasicDirection}
 use Rattle.zr_simplex.specs.Dues.{AreSlacks, IsComplete}
 use Rattle.zr_simplex.proofs.Sums.{sum_to-single}
 use Rattle.zr_simplex.proofs.Forms.{direction_slacks, in_basis}

@@ -4,9 +4,9 @@ use Rattle.std.proofs.lemmas.Int.{ints}
 use Rattle.std.proofs.lemmas.Bool.{cases_eq}
 use Rattle.zr_base.proofs.Ring.{spread}
 use Rattle.zr_base.specs.Sums.{sum_to}
-use Rattle.zr_simplex.specs.Programs.{Program}
+use Rattle.zr_basis.specs.Programs.{Program}
 use Rattle.zr_simplex.proofs.Divide.{cancel_apart, zero_if}
-use Rattle.zr_simplex.specs.BasicForms.{value_column, right_column, CombinesEquations, IsBasicForm}
+use Rattle.zr_basis.specs.BasicForms.{value_column, right_column, CombinesEquations, IsBasicForm}
 use Rattle.zr_simplex.specs.Dues.{HoldsAt, IsComplete}
 use Rattle.zr_simplex.specs.RowSteps.{IsQuotient, IsMixture, IsPivot}
 

@@ -3,7 +3,7 @@ use Rattle.std.proofs.Common.{◌≡◌, ◌≢◌, ℕ, ◌+◌, ◌*◌, ◌-�
 use Rattle.std.proofs.lemmas.List.{get_or-take, get_or-drop, length-take-le, length-drop}
 use Rattle.std.proofs.lemmas.Bool.{cases_eq, cases_lt}
 use Rattle.zr_simplex.specs.Programs.{numbers}
-use Rattle.zr_simplex.specs.BasicForms.{IsReduced}
+use Rattle.zr_basis.specs.BasicForms.{IsReduced}
 use Rattle.zr_simplex.specs.RowSteps.{IsCleared, IsPivot, IsQuotient, IsSolved, row_in}
 use Rattle.zr_simplex.proofs.Grids.{row_in-above, row_in-pivot, row_in-below}
 

@@ -1,7 +1,7 @@
 -- A pivot leaves the basic form of the next basis.
 use Rattle.std.proofs.Common.{◌≡◌, ◌≢◌, ℕ, ◌<◌, arith, ap, ◌∙◌, length, set, slice_index, length-set, get_or-set_same, get_or-set_other}
-use Rattle.zr_simplex.specs.Programs.{Program}
-use Rattle.zr_simplex.specs.BasicForms.{value_column}
+use Rattle.zr_basis.specs.Programs.{Program}
+use Rattle.zr_basis.specs.BasicForms.{value_column}
 use Rattle.zr_simplex.specs.RowSteps.{IsPivot}
 use Rattle.zr_simplex.specs.Tableaus.{Equations, basis_of, form_of}
 use Rattle.zr_simplex.specs.Dues.{IsTableau}

@@ -8,8 +8,9 @@ use Rattle.zr_lin.specs.Ineqs.{IneqHolds, Solves, row_at}
 use Rattle.zr_simplex.specs.declared.program.Lp.{Lp}
 use Rattle.zr_simplex.specs.declared.program.LpAnswer.{LpAnswer}
 use Rattle.zr_simplex.specs.declared.program.LpAnswer.TheVariants.{Best, Empty, Unbounded}
-use Rattle.zr_simplex.specs.Programs.{Program, program_of, lp_rows, numbers, aim_at}
-use Rattle.zr_simplex.specs.BasicForms.{value_column, IsBasicSolution, IsBasicDirection}
+use Rattle.zr_basis.specs.Programs.{Program, aim_at}
+use Rattle.zr_simplex.specs.Programs.{program_of, lp_rows, numbers}
+use Rattle.zr_basis.specs.BasicForms.{value_column, IsBasicSolution, IsBasicDirection}
 
 -- the sum of the rows, each times its multiplier
 abbrev pub weighed : Lp → Terms → DenseRow

@@ -7,8 +7,8 @@ use Rattle.zr_lin.specs.declared.stuck.Step.TheVariants as AStep
 use Rattle.zr_simplex.specs.declared.program.LpAnswer.{LpAnswer}
 use Rattle.zr_simplex.specs.declared.program.Stop.{Stop}
 use Rattle.zr_simplex.specs.declared.program.Stop.TheVariants.{NoMemory, Spent, Wide}
-use Rattle.zr_simplex.specs.Programs.{Program}
-use Rattle.zr_simplex.specs.BasicForms.{IsBasicForm}
+use Rattle.zr_basis.specs.Programs.{Program}
+use Rattle.zr_basis.specs.BasicForms.{IsBasicForm}
 use Rattle.zr_simplex.specs.Pivots.{IsDue, IsReached}
 use Rattle.zr_simplex.specs.Answers.{IsBasicAnswer}
 use Rattle.zr_simplex.specs.StuckSteps.{IsStuck}

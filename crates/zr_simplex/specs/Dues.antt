@@ -3,8 +3,8 @@ use Rattle.std.specs.Prelude.{◌≡◌, ℕ, ◌+◌, ◌<◌, ℤ, pos, ◌*�
 use Rattle.zr_base.specs.Sums.{sum_to}
 use Rattle.zr_simplex.specs.declared.choose.Due.{Due}
 use Rattle.zr_simplex.specs.declared.choose.Due.TheVariants.{Best, Empty, Unbounded, Pivot}
-use Rattle.zr_simplex.specs.Programs.{Program}
-use Rattle.zr_simplex.specs.BasicForms.{right_column, value_column, IsBasicForm}
+use Rattle.zr_basis.specs.Programs.{Program}
+use Rattle.zr_basis.specs.BasicForms.{right_column, value_column, IsBasicForm}
 use Rattle.zr_simplex.specs.Pivots.{IsDue}
 use Rattle.zr_simplex.specs.Tableaus.{Equations, basis_of, form_of}
 

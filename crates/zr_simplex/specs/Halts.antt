@@ -4,7 +4,7 @@ use Rattle.zr_simplex.specs.declared.basic.Halt.{Halt}
 use Rattle.zr_simplex.specs.declared.basic.Halt.TheVariants as AHalt
 use Rattle.zr_simplex.specs.declared.basic.Miss.{Miss}
 use Rattle.zr_simplex.specs.declared.basic.Miss.TheVariants as AMiss
-use Rattle.zr_simplex.specs.Programs.{Program}
+use Rattle.zr_basis.specs.Programs.{Program}
 use Rattle.zr_simplex.specs.Causes.{under_way}
 use Rattle.zr_simplex.specs.StuckSteps.{IsWideAt, IsWideStep}
 

@@ -1,5 +1,4 @@
 pub mod Programs
-pub mod BasicForms
 pub mod Pivots
 pub mod StuckSteps
 pub mod Answers

@@ -1,7 +1,8 @@
 -- When a pivot is due at a basis, and the bases to which such pivots lead.
-use Rattle.std.specs.Prelude.{◌≡◌, ◌≢◌, ℕ, zero, suc, ◌+◌, ◌<◌, ◌≤◌, ℤ, pos, ◌*ℤ◌, ◌<ℤ◌, ◌≤ℤ◌, ◌⊎◌}
-use Rattle.zr_simplex.specs.Programs.{Program}
-use Rattle.zr_simplex.specs.BasicForms.{value_column, right_column, IsBasicForm}
+use Rattle.std.specs.Prelude.{◌≡◌, ℕ, zero, suc, ◌+◌, ◌<◌, ◌≤◌, ℤ, pos, ◌*ℤ◌, ◌<ℤ◌, ◌≤ℤ◌, ◌⊎◌}
+use Rattle.zr_basis.specs.Programs.{Program}
+use Rattle.zr_basis.specs.Bases.{Exchanges}
+use Rattle.zr_basis.specs.BasicForms.{value_column, right_column, IsBasicForm}
 
 -- the equation's right side is below zero, and so is its number at the column
 abbrev pub Mends : Program → (ℕ → ℕ → ℤ) → ℕ → ℕ → Type 0
@@ -26,10 +27,6 @@ pub record Improves (p : Program) (form : ℕ → ℕ → ℤ) (row col : ℕ) :
 -- column col is to take the place of the column of equation row
 abbrev pub IsDue : Program → (ℕ → ℕ → ℤ) → ℕ → ℕ → Type 0
 IsDue p form row col = (row < p.rows) × (col < value_column p) × (Mends p form row col ⊎ Improves p form row col)
-
--- the basis with column col in the place of the column of equation row
-abbrev pub Exchanges : (ℕ → ℕ) → ℕ → ℕ → (ℕ → ℕ) → Type 0
-Exchanges basis row col next = (next row ≡ col) × ((i : ℕ) → i ≢ row → next i ≡ basis i)
 
 -- so many pivots, each of which was due, lead from the basis of the slacks to this one
 abbrev pub IsReached : Program → ℕ → (ℕ → ℕ) → Type 0

@@ -1,7 +1,7 @@
 -- The steps of a pivot on the equations, one after the other.
 use Rattle.std.specs.Prelude.{◌≡◌, ◌≢◌, ◌↔◌, ℕ, ◌+◌, ◌*◌, ◌<◌, ◌≤◌, ℤ, pos, ◌-ℤ◌, ◌*ℤ◌, ◌<ℤ◌, unsigned_abs, List, take, drop}
 use Rattle.std.specs.Int.{◌∣◌}
-use Rattle.zr_simplex.specs.BasicForms.{IsReduced}
+use Rattle.zr_basis.specs.BasicForms.{IsReduced}
 
 -- made is e divided by a number
 pub record IsQuotient (width : ℕ) (e made : ℕ → ℤ) : Type 0 where

@@ -6,8 +6,8 @@ use Rattle.zr_base.specs.Steps.{IsNarrow, cross_of}
 use Rattle.zr_lin.specs.declared.stuck.Step.{Step}
 use Rattle.zr_lin.specs.declared.stuck.Step.TheVariants as AStep
 use Rattle.zr_lin.specs.declared.stuck.Stuck.{Stuck}
-use Rattle.zr_simplex.specs.Programs.{Program}
-use Rattle.zr_simplex.specs.BasicForms.{value_column, right_column, IsBasicForm}
+use Rattle.zr_basis.specs.Programs.{Program}
+use Rattle.zr_basis.specs.BasicForms.{value_column, right_column, IsBasicForm}
 
 -- by and less are p and a divided by their greatest common divisor
 pub record AreCoprimeParts (p a by less : ℤ) : Type 0 where

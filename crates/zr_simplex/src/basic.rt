@@ -3,7 +3,7 @@ ghost use Rattle.std.specs.List.{All};
 ghost use Rattle.zr_base.specs.Steps.{IsNarrow};
 ghost use Rattle.zr_base.specs.Points.{IsPoint};
 ghost use Rattle.zr_simplex.specs.Programs.{IsLp, numbers, program_of};
-ghost use Rattle.zr_simplex.specs.BasicForms.{value_column};
+ghost use Rattle.zr_basis.specs.BasicForms.{value_column};
 ghost use Rattle.zr_simplex.specs.StuckSteps.{IsNumerator};
 ghost use Rattle.zr_simplex.specs.Answers.{IsBasicPoint, IsBasicRay, signed};
 ghost use Rattle.zr_simplex.specs.Tableaus.{basis_of, form_of};

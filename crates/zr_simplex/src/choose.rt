@@ -3,7 +3,7 @@ ghost use Rattle.std.specs.Ordering.{int_cmp};
 ghost use Rattle.zr_base.specs.Fractions.{HaveSameCross, ratio};
 ghost use Rattle.zr_base.specs.Lowest.{IsRatio};
 ghost use Rattle.zr_simplex.specs.Programs.{IsLp, program_of};
-ghost use Rattle.zr_simplex.specs.BasicForms.{right_column, value_column};
+ghost use Rattle.zr_basis.specs.BasicForms.{right_column, value_column};
 ghost use Rattle.zr_simplex.specs.Pivots.{IsLeast, IsNoGreater};
 ghost use Rattle.zr_simplex.specs.Tableaus.{form_of};
 ghost use Rattle.zr_simplex.specs.Dues.{IsNext, IsTableau};

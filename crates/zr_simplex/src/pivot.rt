@@ -2,7 +2,7 @@ ghost use Rattle.std.specs.Prelude.{◌≡◌, ◌≢◌, ◌<◌, ◌+◌, ◌*
 ghost use Rattle.std.specs.List.{All};
 ghost use Rattle.zr_base.specs.Steps.{IsNarrow};
 ghost use Rattle.zr_simplex.specs.Programs.{numbers};
-ghost use Rattle.zr_simplex.specs.BasicForms.{IsReduced};
+ghost use Rattle.zr_basis.specs.BasicForms.{IsReduced};
 ghost use Rattle.zr_simplex.specs.StuckSteps.{IsWidePivot};
 ghost use Rattle.zr_simplex.specs.RowSteps.{IsCleared, IsPivot, IsSolved, row_in};
 

@@ -3,7 +3,7 @@ ghost use Rattle.std.specs.List.{All};
 ghost use Rattle.std.specs.Int.{IsGcd, ◌∣◌};
 ghost use Rattle.zr_base.specs.Steps.{IsNarrow, cross_of};
 ghost use Rattle.zr_simplex.specs.Programs.{numbers};
-ghost use Rattle.zr_simplex.specs.BasicForms.{IsReduced};
+ghost use Rattle.zr_basis.specs.BasicForms.{IsReduced};
 ghost use Rattle.zr_simplex.specs.StuckSteps.{AreCoprimeParts, IsWidePivot};
 ghost use Rattle.zr_simplex.specs.RowSteps.{IsCleared, IsGreatest, IsQuotient};
 

@@ -2,8 +2,9 @@ ghost use Rattle.std.specs.Prelude.{◌≡◌, ◌≢◌, ◌<◌, ◌+◌, ◌�
 ghost use Rattle.zr_base.specs.Terms.{Ascends};
 ghost use Rattle.zr_io.specs.declared.purse.Purse.{Purse as APurse};
 ghost use Rattle.zr_simplex.specs.Programs.{IsLp, program_of};
-ghost use Rattle.zr_simplex.specs.BasicForms.{right_column, value_column};
-ghost use Rattle.zr_simplex.specs.Pivots.{Exchanges, IsReached};
+ghost use Rattle.zr_basis.specs.BasicForms.{right_column, value_column};
+ghost use Rattle.zr_basis.specs.Bases.{Exchanges};
+ghost use Rattle.zr_simplex.specs.Pivots.{IsReached};
 ghost use Rattle.zr_simplex.specs.StuckSteps.{IsWidePivot};
 ghost use Rattle.zr_simplex.specs.Answers.{AreListed, AreOf, IsAnswer, IsBasicAnswer, signed};
 ghost use Rattle.zr_simplex.specs.Causes.{IsCause, IsReachedAnswer, PaysPivots, paid};

@@ -1,7 +1,6 @@
-use Rattle.std.proofs.Common.{rules, ◌≡◌, ◌∙◌, subst, ℤ, pos, ◌<ℤ◌, ◌*ℤ◌, FitsSigned}
+use Rattle.std.proofs.Common.{rules, ◌∙◌, FitsSigned}
 use Rattle.std.specs.Int.{w128}
 use Rattle.std.proofs.lemmas.Int.{to_z-of_z}
-use Rattle.zr_base.specs.Fractions.{HaveSameCross, ratio}
 use Rattle.zr_simplex.specs.Tableaus.{form_of}
 use Rattle.zr_simplex.proofs.Quotients.{quotients_alike}
 use Rattle.zr_simplex.proofs.choose.compare_at.Goals as goal

@@ -3,7 +3,7 @@
 use Rattle.std.specs.Prelude.{◌≡◌, ◌≢◌, ℕ, ◌+◌, ◌<◌, ◌≤◌, ℤ, pos, ◌-ℤ◌, ◌*ℤ◌, ◌<ℤ◌, neg_ℤ, unsigned_abs}
 use Rattle.std.specs.Int.{◌∣◌}
 use Rattle.zr_base.specs.Sums.{sum_to}
-use Rattle.zr_simplex.specs.Programs.{Program}
+use Rattle.zr_basis.specs.Programs.{Program}
 
 abbrev pub value_column : Program → ℕ
 value_column p = p.columns + p.rows

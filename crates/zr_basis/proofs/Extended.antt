@@ -1,0 +1,46 @@
+-- A run, one pivot longer.
+use Rattle.std.proofs.Common.{◌≡◌, ◌≢◌, ℕ, zero, suc, ◌<◌, ◌≤◌, arith, refl, ⊎_elim}
+use Rattle.std.proofs.lemmas.Bool.{cases_eq}
+use Rattle.zr_basis.specs.Programs.{Program}
+use Rattle.zr_basis.specs.Stages.{IsFeasibleForm, Stage}
+use Rattle.zr_basis.specs.Runs.{IsDualStep, IsPrimalStep, IsRun}
+
+-- f up to n, and then new
+abbrev pub put : (p : Program) → ℕ → (ℕ → Stage p) → Stage p → ℕ → Stage p
+put p n f new zero = f zero
+put p zero f new (suc k) = new
+put p (suc n) f new (suc k) = put p n (λ j. f (suc j)) new k
+
+pub put_low : (p : Program) (n : ℕ) (f : ℕ → Stage p) (new : Stage p) (k : ℕ) → k ≤ n → put p n f new k ≡ f k
+put_low p zero f new zero h = refl
+put_low p (suc n) f new zero h = refl
+put_low p zero f new (suc k) h = absurd (omega arith)
+put_low p (suc n) f new (suc k) h = put_low p n (λ j. f (suc j)) new k (omega arith)
+
+pub put_high : (p : Program) (n : ℕ) (f : ℕ → Stage p) (new : Stage p) → put p n f new (suc n) ≡ new
+put_high p zero f new = refl
+put_high p (suc n) f new = put_high p n (λ j. f (suc j)) new
+
+-- the turn may still come later
+pub turn_later : (p : Program) (turn later last : ℕ) (stage : ℕ → Stage p) → IsRun p turn last stage → last < turn → last < later → IsRun p later last stage
+turn_later p turn later last stage run h q = record { slacks = run.slacks; duals = λ n a b. run.duals n a (omega arith); feasible = λ a. absurd (omega arith); primals = λ n a b. absurd (omega arith) }
+
+-- or be now
+pub turn_now : (p : Program) (turn last : ℕ) (stage : ℕ → Stage p) → IsRun p turn last stage → last < turn → IsFeasibleForm p (stage last).form → IsRun p last last stage
+turn_now p turn last stage run h feasible = record { slacks = run.slacks; duals = λ n a b. run.duals n a (omega arith); feasible = λ a. feasible; primals = λ n a b. absurd (omega arith) }
+
+pub more_dual : (p : Program) (n turn : ℕ) (stage : ℕ → Stage p) → IsRun p turn n stage → suc n < turn → (new : Stage p) → IsDualStep p (stage n) new → IsRun p turn (suc n) (put p n stage new)
+more_dual p n turn stage run later new step = record {
+  slacks = rw (put_low p n stage new 0 (omega arith)) run.slacks;
+  duals = λ k h q. ⊎_elim (λ (e : k ≡ n). rw (e, put_low p n stage new n (omega arith), put_high p n stage new) step) (λ (a : k ≢ n). rw (put_low p n stage new k (omega arith), put_low p n stage new (suc k) (omega arith)) (run.duals k (omega arith) q)) (cases_eq k n);
+  feasible = λ a. absurd (omega arith);
+  primals = λ k h q. absurd (omega arith);
+}
+
+pub more_primal : (p : Program) (n turn : ℕ) (stage : ℕ → Stage p) → IsRun p turn n stage → turn ≤ n → (new : Stage p) → IsPrimalStep p (stage turn) (stage n) new → IsRun p turn (suc n) (put p n stage new)
+more_primal p n turn stage run earlier new step = record {
+  slacks = rw (put_low p n stage new 0 (omega arith)) run.slacks;
+  duals = λ k h q. rw (put_low p n stage new k (omega arith), put_low p n stage new (suc k) (omega arith)) (run.duals k (omega arith) q);
+  feasible = λ a. rw (put_low p n stage new turn earlier) (run.feasible earlier);
+  primals = λ k h q. ⊎_elim (λ (e : k ≡ n). rw (e, put_low p n stage new n (omega arith), put_high p n stage new, put_low p n stage new turn earlier) step) (λ (a : k ≢ n). rw (put_low p n stage new k (omega arith), put_low p n stage new (suc k) (omega arith), put_low p n stage new turn earlier) (run.primals k (omega arith) q)) (cases_eq k n);
+}

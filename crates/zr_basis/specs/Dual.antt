@@ -1,0 +1,53 @@
+-- The lexicographic rule of the dual method, for the aim that the columns be least in their order.
+use Rattle.std.specs.Prelude.{◌≡◌, ◌≢◌, ℕ, ◌<◌, ℤ, pos, neg_ℤ, ◌-ℤ◌, ◌*ℤ◌, ◌<ℤ◌}
+use Rattle.zr_basis.specs.Programs.{Program}
+use Rattle.zr_basis.specs.BasicForms.{value_column, right_column, IsBasicSolution, IsBasicDirection}
+use Rattle.zr_basis.specs.Vectors.{IsLeading, IsLower}
+
+-- x, over d, is the basic direction that raises column col
+abbrev pub IsRay : Program → (ℕ → ℕ) → (ℕ → ℕ → ℤ) → ℕ → (ℕ → ℤ) → ℤ → Type 0
+IsRay p basis form col x d = ((pos 0) <ℤ d) × IsBasicDirection p basis form col x d
+
+-- the column isn't in the basis
+abbrev pub IsFree : Program → (ℕ → ℕ) → ℕ → Type 0
+IsFree p basis col = (col < value_column p) × ((i : ℕ) → i < p.rows → col ≢ basis i)
+
+-- along each column off the basis, the first column that changes rises
+abbrev pub AreRaysPositive : Program → (ℕ → ℕ) → (ℕ → ℕ → ℤ) → Type 0
+AreRaysPositive p basis form =
+    (col : ℕ) → IsFree p basis col → (x : ℕ → ℤ) (d : ℤ) → IsRay p basis form col x d → IsLeading (value_column p) x
+
+-- the row's right side is below zero; of the columns off the basis where the row is below zero, none has a lower quotient of direction by the row's number, negated, than this one
+pub record IsDualDue (p : Program) (basis : ℕ → ℕ) (form : ℕ → ℕ → ℤ) (row col : ℕ) : Type 0 where
+  pub below : row < p.rows
+  pub column : col < value_column p
+  pub right : form row (right_column p) <ℤ (pos 0)
+  pub under : form row col <ℤ (pos 0)
+  pub ray : ℕ → ℤ
+  pub over : ℤ
+  pub is_ray : IsRay p basis form col ray over
+  pub least : (k : ℕ) → IsFree p basis k → form row k <ℤ (pos 0) → (x : ℕ → ℤ) (d : ℤ) → IsRay p basis form k x d → IsLower (value_column p) x (d *ℤ neg_ℤ (form row k)) ray (over *ℤ neg_ℤ (form row col)) → ⊥
+
+-- x, over d, is the basic solution
+abbrev pub IsAt : Program → (ℕ → ℕ) → (ℕ → ℕ → ℤ) → (ℕ → ℤ) → ℤ → Type 0
+IsAt p basis form x d = ((pos 0) <ℤ d) × IsBasicSolution p basis form x d
+
+-- the basic solution of `made` is lexicographically above that of `form`
+abbrev pub Rises : Program → (ℕ → ℕ) → (ℕ → ℕ → ℤ) → (ℕ → ℕ) → (ℕ → ℕ → ℤ) → Type 0
+Rises p basis form next made =
+    (x : ℕ → ℤ) × (d : ℤ) × (y : ℕ → ℤ) × (e : ℤ) × IsAt p basis form x d × IsAt p next made y e × IsLower (value_column p) x d y e
+
+-- c, at each column, has the sign of the difference of the directions of l and k, each over the row's number, negated
+pub record IsComparison (p : Program) (basis : ℕ → ℕ) (form : ℕ → ℕ → ℤ) (row k l : ℕ) (c : ℕ → ℤ) : Type 0 where
+  pub on : (i : ℕ) → i < p.rows → c (basis i) ≡ form i l *ℤ form row k -ℤ form i k *ℤ form row l
+  pub first : c k ≡ form row l
+  pub second : c l ≡ neg_ℤ (form row k)
+  pub off : (j : ℕ) → j < value_column p → j ≢ k → j ≢ l → ((i : ℕ) → i < p.rows → j ≢ basis i) → c j ≡ pos 0
+
+-- the rule by the numbers of the form alone
+pub record IsDualDueByNumbers (p : Program) (basis : ℕ → ℕ) (form : ℕ → ℕ → ℤ) (row col : ℕ) : Type 0 where
+  pub below : row < p.rows
+  pub column : col < value_column p
+  pub right : form row (right_column p) <ℤ (pos 0)
+  pub under : form row col <ℤ (pos 0)
+  pub least : (k : ℕ) → k < value_column p → k ≢ col → form row k <ℤ (pos 0) → (c : ℕ → ℤ) × IsComparison p basis form row k col c × (IsLeading (value_column p) c → ⊥)

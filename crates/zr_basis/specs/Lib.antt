@@ -1,0 +1,9 @@
+pub mod Programs
+pub mod BasicForms
+pub mod Bases
+pub mod Choices
+pub mod Stages
+pub mod Vectors
+pub mod Primal
+pub mod Dual
+pub mod Runs

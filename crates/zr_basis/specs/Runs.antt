@@ -1,0 +1,35 @@
+-- Runs of the method by the lexicographic rules.
+use Rattle.std.specs.Prelude.{◌≡◌, ℕ, suc, ◌+◌, ◌<◌, ◌≤◌, ◌⊎◌}
+use Rattle.zr_basis.specs.Programs.{Program}
+use Rattle.zr_basis.specs.Bases.{Exchanges}
+use Rattle.zr_basis.specs.Stages.{Stage, IsShort, IsFeasibleForm}
+use Rattle.zr_basis.specs.Primal.{IsPrimalDue, Drops}
+use Rattle.zr_basis.specs.Dual.{IsDualDue, Rises}
+
+-- while a right side is below zero the basic solution rises, then none is below zero, and from there the value's vector, read by the basis of `start`, falls
+abbrev pub Falls : (p : Program) → Stage p → Stage p → Stage p → Type 0
+Falls p start old new =
+    (IsShort p old.form × IsFeasibleForm p new.form)
+    ⊎ ((IsShort p old.form × IsShort p new.form × Rises p old.basis old.form new.basis new.form)
+    ⊎ (IsFeasibleForm p old.form × IsFeasibleForm p new.form × Drops p start.basis old.form new.form))
+
+-- each stage up to the last falls from the one before
+abbrev pub AreFalling : (p : Program) → Stage p → ℕ → (ℕ → Stage p) → Type 0
+AreFalling p start last stage = (n : ℕ) → n < last → Falls p start (stage n) (stage (suc n))
+
+-- a pivot by the dual rule leads from the one stage to the other
+abbrev pub IsDualStep : (p : Program) → Stage p → Stage p → Type 0
+IsDualStep p old new =
+    (row : ℕ) × (col : ℕ) × IsDualDue p old.basis old.form row col × Exchanges old.basis row col new.basis
+
+-- a pivot by the primal rule, with vectors that are read by the basis of `start`, leads from the one stage to the other
+abbrev pub IsPrimalStep : (p : Program) → Stage p → Stage p → Stage p → Type 0
+IsPrimalStep p start old new =
+    (row : ℕ) × (col : ℕ) × IsPrimalDue p start.basis old.form row col × Exchanges old.basis row col new.basis
+
+-- the stages begin at the slacks; pivots by the dual rule come first, up to a stage `turn` with no right side below zero, and then pivots by the primal rule, with vectors that are read by that stage's basis
+pub record IsRun (p : Program) (turn last : ℕ) (stage : ℕ → Stage p) : Type 0 where
+  pub slacks : (i : ℕ) → i ≤ p.rows → (stage 0).basis i ≡ p.columns + i
+  pub duals : (n : ℕ) → n < last → n < turn → IsDualStep p (stage n) (stage (suc n))
+  pub feasible : turn ≤ last → IsFeasibleForm p (stage turn).form
+  pub primals : (n : ℕ) → n < last → turn ≤ n → IsPrimalStep p (stage turn) (stage n) (stage (suc n))
