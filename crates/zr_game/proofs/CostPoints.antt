@@ -1,15 +1,14 @@
 -- The terms of a game's player at one point per player.
-use Rattle.std.proofs.Common.{ℕ, ◌<◌, arith, sym, subst, length, get_or, All}
+use Rattle.std.proofs.Common.{ℕ, ◌<◌, arith, sym, subst, List, None, length, get_or, All}
 use Rattle.std.proofs.lemmas.Option.{slice_get_within}
 use Rattle.zr_base.specs.Points.{PointOf}
 use Rattle.zr_game.specs.Players.{GameOf, PlayerOf}
-use Rattle.zr_game.specs.Forms.{IsCoefficient, IsGame, IsPlayer}
+use Rattle.zr_game.specs.Forms.{IsCoefficient, IsGame, IsOthersVar, IsPlayer}
 use Rattle.zr_game.specs.Costs.{point_of}
 use Rattle.zr_game.specs.CostSteps.{ArePoints}
-use Rattle.zr_game.specs.CostTerms.{IsTermAt}
+use Rattle.zr_game.specs.CostTerms.{HasPlace, IsOtherAt, IsTermAt}
 use Rattle.zr_game.proofs.Items.{at_number}
 use Rattle.zr_game.proofs.TermColumns.{columns_exist}
-use Rattle.std.proofs.Common.{List}
 
 module _ (game : GameOf) (form : IsGame game) (points : List PointOf) (are : ArePoints game points) (i : ℕ) (player : PlayerOf) (is : IsPlayer game i player) where
   pub here : i < length points
@@ -36,3 +35,18 @@ module _ (game : GameOf) (form : IsGame game) (points : List PointOf) (are : Are
         own = omega (arith, own, own_len);
         var = omega (arith, v, other_len);
       }
+
+  place_exists : (at : ℕ × ℕ) → IsOthersVar game i at → HasPlace points at
+  place_exists at form =
+      let other = at_number game at.0 form.player in
+      let other_len = are.lens at.0 other.0 other.1 in
+      let v = form.var other.0 other.1 in
+      let there = form.player in
+      let len = are.len in
+      (omega (arith, there, len), omega (arith, v, other_len))
+
+  pub others_exist : All (IsOtherAt points) player.others
+  others_exist k d h =
+      let f = (form.players i player is).others k d h in
+      let t = get_or player.others k d in
+      (place_exists t.first f.first, λ at e. place_exists at (f.second at e).1)

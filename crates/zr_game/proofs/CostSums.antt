@@ -1,31 +1,58 @@
--- Sums by steps, and a cost as two of them.
-use Rattle.std.proofs.Common.{◌≡◌, ℕ, ◌+◌, ◌<◌, ◌≤◌, arith, refl, sym, ap, subst, ◌∙◌, ℤ, pos, ◌+ℤ◌, ◌*ℤ◌, unsigned_abs, int_div, Result, Ok, Err, IfOk, List, [], ◌∷◌, ◌++◌, suc, length, get_or, take, drop, lit<}
-use Rattle.std.proofs.Math.Nat.{eq-one_of_dvd-one, one-dvd}
+-- Sums by steps, and a cost as three of them.
+use Rattle.std.proofs.Common.{◌≡◌, ℕ, ◌+◌, ◌<◌, ◌≤◌, arith, refl, sym, ap, subst, ◌∙◌, ℤ, pos, ◌+ℤ◌, ◌*ℤ◌, ◌<ℤ◌, Option, Some, Result, Ok, Err, IfOk, List, [], ◌∷◌, ◌++◌, suc, length, get_or, take, drop}
+use Rattle.std.specs.Option.{option_map_or}
+use Rattle.std.proofs.Math.IntN.{*ℤ_comm}
 use Rattle.std.proofs.lemmas.Int.{ints}
 use Rattle.std.proofs.lemmas.List.{take_all, take_more}
 use Rattle.zr_base.specs.declared.step.Wide.{Wide}
 use Rattle.zr_base.specs.Steps.{◌>>=◌}
-use Rattle.zr_base.specs.Fractions.{Fraction, HaveSameCross, plus, sum_over, times, whole}
-use Rattle.zr_base.specs.Lowest.{IsLowest, add_of, gcd_of, reduce}
+use Rattle.zr_base.specs.Fractions.{Fraction, IsSame, plus, sum_over, times, whole}
+use Rattle.zr_base.specs.Lowest.{IsLowest, add_of}
 use Rattle.zr_base.specs.Points.{PointOf, value_of}
-use Rattle.zr_base.proofs.Divisors.{quot_exact}
-use Rattle.zr_base.proofs.Gcds.{gcd_of_is}
-use Rattle.zr_base.proofs.Reduced.{reduce_lowest}
-use Rattle.zr_base.proofs.Sames.{if_same, plus_assoc, plus_left, plus_right, same_record, sum_over-snoc, times_assoc, times_left}
+use Rattle.zr_base.proofs.Divisors.{mul_positive, positive_factor}
+use Rattle.zr_base.proofs.SameLaws.{plus_same, same_through}
+use Rattle.zr_base.proofs.Sames.{plus_assoc, plus_left, same_record, sum_over-snoc, times_assoc, times_left, times_right}
 use Rattle.zr_base.proofs.SumSteps.{get_or_default, split_at}
+use Rattle.zr_base.proofs.Wholes.{lowest_whole}
 use Rattle.zr_game.specs.declared.player.CrossTerm.{CrossTerm}
+use Rattle.zr_game.specs.declared.player.Other.{Other}
 use Rattle.zr_game.specs.Players.{PlayerOf}
-use Rattle.zr_game.specs.Costs.{cost_of, point_of}
-use Rattle.zr_game.specs.CostSteps.{cost_steps, cross_term, own_term, sum_made}
-use Rattle.zr_game.specs.CostTerms.{cross_value}
+use Rattle.zr_game.specs.Costs.{cost_of, own_at, point_of, rest_at, value_at_place}
+use Rattle.zr_game.specs.CostSteps.{cost_steps, cross_term, other_term, own_term, sum_made, times_value}
+use Rattle.zr_game.specs.CostTerms.{cross_value, other_value}
 
--- a whole number is in lowest terms
-pub reduce_whole : (c : ℤ) → reduce c (pos 1) ≡ whole c
-unfolding reduce
-reduce_whole c =
-    let g : gcd_of (unsigned_abs c) 1 ≡ 1 = eq-one_of_dvd-one (gcd_of_is (unsigned_abs c) 1).1 in
-    let n : int_div c (pos 1) ≡ c = let e = quot_exact c (pos 1) (one-dvd (unsigned_abs c)) in omega (arith, ints, e) in
-    rw (g, n) refl
+-- a factor or a summand is replaced by one of its value
+module _ (f a b x : Fraction) where
+  first_factor : (pos 0) <ℤ (a.den *ℤ b.den) → (pos 0) <ℤ b.den → (pos 0) <ℤ a.den
+  first_factor = positive_factor a.den b.den
+
+  last_factor : (pos 0) <ℤ (b.den *ℤ a.den) → (pos 0) <ℤ b.den → (pos 0) <ℤ a.den
+  last_factor h p = positive_factor a.den b.den (subst (λ z. (pos 0) <ℤ z) (*ℤ_comm b.den a.den) h) p
+
+  pub times_last : IsSame f (times a b) → IsSame b x → IsSame f (times a x)
+  times_last e h = record {
+    left = e.left;
+    right = mul_positive a.den x.den (first_factor e.right h.left) h.right;
+    cross = times_right f a b x h.left e.cross h.cross;
+  }
+
+  pub times_first : IsSame f (times b a) → IsSame b x → IsSame f (times x a)
+  times_first e h = record {
+    left = e.left;
+    right = mul_positive x.den a.den h.right (last_factor e.right h.left);
+    cross = times_left f a b x h.left e.cross h.cross;
+  }
+
+  pub plus_first : IsSame f (plus b a) → IsSame b x → IsSame f (plus x a)
+  plus_first e h = record {
+    left = e.left;
+    right = mul_positive x.den a.den h.right (last_factor e.right h.left);
+    cross = plus_left f a b x h.left e.cross h.cross;
+  }
+
+pub if_made : (r : Result Fraction Wide) (a b : Fraction) → ((f : Fraction) → IsSame f a → IsSame f b) → IfOk r (λ f. IsSame f a) → IfOk r (λ f. IsSame f b)
+if_made (Ok f) a b h e = h f e
+if_made (Err w) a b h e = e
 
 module _ {A : Type 0} (make : A → Result Fraction Wide) where
   sum_made-append : (s : Fraction) (xs ys : List A) → sum_made make s (xs ++ ys) ≡ (sum_made make s xs >>= λ r. sum_made make r ys)
@@ -43,7 +70,7 @@ module _ {A : Type 0} (make : A → Result Fraction Wide) where
 -- what is made of the items of xs is added to start
 pub record Summed {A : Type 0} (make : A → Result Fraction Wide) (g : A → Fraction) (start : Fraction) (xs : List A) (sum : Fraction) : Type 0 where
   pub steps : sum_made make start xs ≡ Ok sum
-  pub exact : HaveSameCross sum (plus start (sum_over xs g))
+  pub exact : IsSame sum (plus start (sum_over xs g))
   pub lowest : IsLowest sum
 
 plus_none : (n d : ℤ) → n *ℤ (d *ℤ pos 1) ≡ (n *ℤ pos 1 +ℤ pos 0 *ℤ d) *ℤ d
@@ -52,21 +79,32 @@ plus_none n d =
     let b : n *ℤ pos 1 +ℤ pos 0 *ℤ d ≡ n = omega (arith, ints) in
     ap (λ x. n *ℤ x) a ∙ ap (λ x. x *ℤ d) (sym b)
 
+-- a sum with nothing added
+same_plus_none : (f : Fraction) → IsLowest f → IsSame f (plus f (whole (pos 0)))
+same_plus_none f lowest = record {
+  left = lowest.ratio.positive;
+  right = mul_positive f.den (pos 1) lowest.ratio.positive (omega (arith, ints));
+  cross = plus_none f.num f.den;
+}
+
 module _ {A : Type 0} (make : A → Result Fraction Wide) (g : A → Fraction) (start : Fraction) where
   pub none_summed : IsLowest start → Summed make g start [] start
-  none_summed lowest = record { steps = refl; exact = plus_none start.num start.den; lowest = lowest }
+  none_summed lowest = record { steps = refl; exact = same_plus_none start lowest; lowest = lowest }
 
   module _ (xs : List A) (i : ℕ) (d : A) (here : i < length xs) (sum : Fraction) (before : Summed make g start (take i xs) sum) where
-    pub more_summed : (a next : Fraction) → make (get_or xs i d) ≡ Ok a → HaveSameCross a (g (get_or xs i d)) → IsLowest a → add_of sum a ≡ Ok next → HaveSameCross next (plus sum a) → IsLowest next → Summed make g start (take (i + 1) xs) next
-    more_summed a next made same lowest adds e next_lowest =
+    pub more_summed : (a next : Fraction) → make (get_or xs i d) ≡ Ok a → IsSame a (g (get_or xs i d)) → add_of sum a ≡ Ok next → IsSame next (plus sum a) → IsLowest next → Summed make g start (take (i + 1) xs) next
+    more_summed a next made same adds e next_lowest =
         let x = get_or xs i d in
-        let right = plus_right next sum a (g x) lowest.ratio.positive e same in
-        let left = plus_left next (g x) sum (plus start (sum_over (take i xs) g)) before.lowest.ratio.positive right before.exact in
-        let whole_sum = sym (plus_assoc start (sum_over (take i xs) g) (g x)) ∙ ap (plus start) (sym (sum_over-snoc (take i xs) x g)) in
+        let so_far = plus start (sum_over (take i xs) g) in
+        let both = plus_same sum a so_far (g x) before.exact same in
+        let right = same_through next (plus sum a) (plus so_far (g x)) e both in
+        let snoc = ap (plus start) (sym (sum_over-snoc (take i xs) x g)) in
+        let whole_sum = sym (plus_assoc start (sum_over (take i xs) g) (g x)) ∙ snoc in
         let last : sum_made make sum (x ∷ []) ≡ Ok next = rw (made, adds) refl in
+        let onward = λ (r : Result Fraction Wide). r >>= λ z. sum_made make z (x ∷ []) in
         let all : Summed make g start (take i xs ++ x ∷ []) next = record {
-          steps = sum_made-append make start (take i xs) (x ∷ []) ∙ ap (λ (r : Result Fraction Wide). r >>= λ z. sum_made make z (x ∷ [])) before.steps ∙ last;
-          exact = subst (λ (z : Fraction). HaveSameCross next z) whole_sum left;
+          steps = sum_made-append make start (take i xs) (x ∷ []) ∙ ap onward before.steps ∙ last;
+          exact = subst (λ (z : Fraction). IsSame next z) whole_sum right;
           lowest = next_lowest;
         } in
         subst (λ (ys : List A). Summed make g start ys next) (sym (take_more xs i d here)) all
@@ -95,26 +133,50 @@ pub point_is : (points : List PointOf) (k : ℕ) (x : PointOf) → k < length po
 point_is points k x h e = e ∙ get_or_default points k x (record { num = List.[]; den = pos 1 }) h
 
 -- a number times an own value, and then times another value
-pub both_exact : (i : ℕ) (points : List PointOf) (t : CrossTerm) (a : Fraction) (r : Result Fraction Wide) → HaveSameCross a (times (whole t.coef) (value_of (point_of points i) t.own)) → IsLowest a → IfOk r (λ f. HaveSameCross f (times a (value_of (point_of points t.player) t.var))) → IfOk r (λ f. HaveSameCross f (cross_value i points t))
-both_exact i points t a r same lowest made =
+pub both_exact : (i : ℕ) (points : List PointOf) (t : CrossTerm) (a : Fraction) (r : Result Fraction Wide) → IsSame a (own_at (value_of (point_of points i)) (t.own, t.coef)) → IfOk r (λ f. IsSame f (times a (value_at_place points (t.player, t.var)))) → IfOk r (λ f. IsSame f (cross_value i points t))
+both_exact i points t a r same made =
     let own = value_of (point_of points i) t.own in
-    let other = value_of (point_of points t.player) t.var in
-    if_same r (times a other) (cross_value i points t) (λ f e. subst (λ (z : Fraction). HaveSameCross f z) (times_assoc (whole t.coef) own other) (times_left f other a (times (whole t.coef) own) lowest.ratio.positive e same)) made
+    let other = value_at_place points (t.player, t.var) in
+    let first = own_at (value_of (point_of points i)) (t.own, t.coef) in
+    let joined = times_assoc (whole t.coef) own other in
+    let step = λ (f : Fraction) (e : IsSame f (times a other)). subst (λ (z : Fraction). IsSame f z) joined (times_first f other a first e same) in
+    if_made r (times a other) (cross_value i points t) step made
 
--- the own terms and then the cross terms are the cost
-pub cost_exact : (player : PlayerOf) (i : ℕ) (points : List PointOf) (own : Fraction) (r : Result Fraction Wide) → HaveSameCross own (sum_over player.cost (λ t. times (whole t.1) (value_of (point_of points i) t.0))) → IsLowest own → IfOk r (λ f. HaveSameCross f (plus own (sum_over player.cross (cross_value i points)))) → IfOk r (λ f. HaveSameCross f (cost_of player i points))
-cost_exact player i points own r same lowest made =
-    let terms = sum_over player.cost (λ t. times (whole t.1) (value_of (point_of points i) t.0)) in
-    let cross = sum_over player.cross (cross_value i points) in
-    if_same r (plus own cross) (plus terms cross) (λ f e. plus_left f cross own terms lowest.ratio.positive e same) made
+-- a term in the variables of two others
+module _ (points : List PointOf) (t : Other) (at : ℕ × ℕ) (first : Fraction) (two : t.second ≡ Some at) where
+  pub other_made : times_value (whole t.coef) (point_of points t.first.0) t.first.1 ≡ Ok first → times_value first (point_of points at.0) at.1 ≡ other_term points t
+  other_made e = rw (e, two) refl
 
--- own terms that are too wide
-pub own_wide : (player : PlayerOf) (i : ℕ) (points : List PointOf) (w : Wide) → sum_made (own_term (point_of points i)) (whole (pos 0)) player.cost ≡ Err w → Err w ≡ cost_steps player i points
-own_wide player i points w e = rw e refl
+  pub other_exact : (r : Result Fraction Wide) → IsSame first (times (whole t.coef) (value_at_place points t.first)) → IfOk r (λ f. IsSame f (times first (value_at_place points at))) → IfOk r (λ f. IsSame f (other_value points t))
+  other_exact r same made =
+      let one = times (whole t.coef) (value_at_place points t.first) in
+      let last = value_at_place points at in
+      let both = if_made r (times first last) (times one last) (λ f e. times_first f last first one e same) made in
+      let value = λ (o : Option (ℕ × ℕ)). option_map_or (λ at. times one (value_at_place points at)) o one in
+      subst (λ (o : Option (ℕ × ℕ)). IfOk r (λ f. IsSame f (value o))) (sym two) both
 
--- the cross terms are added to the own terms
-pub own_made : (player : PlayerOf) (i : ℕ) (points : List PointOf) (own : Fraction) → sum_made (own_term (point_of points i)) (whole (pos 0)) player.cost ≡ Ok own → sum_made (cross_term i points) own player.cross ≡ cost_steps player i points
-own_made player i points own e = rw e refl
+module _ (player : PlayerOf) (i : ℕ) (points : List PointOf) where
+  -- own terms that are too wide
+  pub own_wide : (w : Wide) → sum_made (own_term (point_of points i)) (whole (pos 0)) player.cost ≡ Err w → Err w ≡ cost_steps player i points
+  own_wide w e = rw e refl
+
+  module _ (own : Fraction) (first : sum_made (own_term (point_of points i)) (whole (pos 0)) player.cost ≡ Ok own) where
+    -- cross terms that are too wide
+    pub cross_wide : (w : Wide) → sum_made (cross_term i points) own player.cross ≡ Err w → Err w ≡ cost_steps player i points
+    cross_wide w e = rw (first, e) refl
+
+    -- the others' terms are added to the own and the cross terms
+    pub cross_made : (crossed : Fraction) → sum_made (cross_term i points) own player.cross ≡ Ok crossed → sum_made (other_term points) crossed player.others ≡ cost_steps player i points
+    cross_made crossed e = rw (first, e) refl
+
+  -- the own terms, then the cross terms, and then the others' terms are the cost
+  pub cost_exact : (own crossed : Fraction) (r : Result Fraction Wide) → IsSame own (sum_over player.cost (own_at (value_of (point_of points i)))) → IsSame crossed (plus own (sum_over player.cross (cross_value i points))) → IfOk r (λ f. IsSame f (plus crossed (sum_over player.others (other_value points)))) → IfOk r (λ f. IsSame f (cost_of player i points))
+  cost_exact own crossed r first second made =
+      let terms = sum_over player.cost (own_at (value_of (point_of points i))) in
+      let cross = sum_over player.cross (cross_value i points) in
+      let rest = rest_at player (value_at_place points) in
+      let both = plus_first crossed cross own terms second first in
+      if_made r (plus crossed rest) (plus (plus terms cross) rest) (λ f e. plus_first f rest crossed (plus terms cross) e both) made
 
 pub zero_lowest : IsLowest (whole (pos 0))
-zero_lowest = rw (← reduce_whole (pos 0)) (reduce_lowest (pos 0) (pos 1) (record { positive = omega (arith, ints); narrow_num = omega arith; narrow_den = lit< tt }))
+zero_lowest = lowest_whole (pos 0) (omega arith)
