@@ -9,7 +9,7 @@ use Rattle.zr_base.proofs.SumSteps.{sum_steps_exact}
 use Rattle.zr_base.proofs.Telling.{both_true, true_both}
 use Rattle.zr_game.specs.Players.{PairOf, PlayerOf}
 use Rattle.zr_game.specs.Feasible.{AreWithin, IsFeasible, PairHolds, slack}
-use Rattle.zr_game.specs.FeasibleSteps.{bound_wide, feasible_wide, pair_wide, row_wide}
+use Rattle.zr_game.specs.FeasibleSteps.{feasible_wide, pair_wide, row_wide, var_wide}
 
 sum_products-append : (xs : List (ℤ × ℤ)) (t : ℤ × ℤ) → sum_products (xs ++ t ∷ []) ≡ sum_products xs +ℤ t.0 *ℤ t.1
 sum_products-append [] t = omega (arith, ints)
@@ -22,7 +22,7 @@ slack_is pair x v e =
     omega (arith, ints, s, a)
 
 -- three tests together are the test of a point
-pub feasible_told : (player : PlayerOf) (x : PointOf) (a b c : Bool) → (pos 0) <ℤ x.den → length x.num ≡ length player.vars → (first_wide (λ var. bound_wide x.den var.up) player.vars ≡ None) × (IsTrue a ↔ AreWithin player.vars x) → (first_wide (row_wide x) player.rows ≡ None) × (IsTrue b ↔ All (RowHolds x) player.rows) → (first_wide (pair_wide x) player.pairs ≡ None) × (IsTrue c ↔ All (PairHolds x) player.pairs) → (feasible_wide player x ≡ None) × (IsTrue ((a && b) && c) ↔ IsFeasible player x)
+pub feasible_told : (player : PlayerOf) (x : PointOf) (a b c : Bool) → (pos 0) <ℤ x.den → length x.num ≡ length player.vars → (first_wide (var_wide x.den) player.vars ≡ None) × (IsTrue a ↔ AreWithin player.vars x) → (first_wide (row_wide x) player.rows ≡ None) × (IsTrue b ↔ All (RowHolds x) player.rows) → (first_wide (pair_wide x) player.pairs ≡ None) × (IsTrue c ↔ All (PairHolds x) player.pairs) → (feasible_wide player x ≡ None) × (IsTrue ((a && b) && c) ↔ IsFeasible player x)
 feasible_told player x a b c positive len bounds rows pairs = (
   rw (bounds.0, rows.0, pairs.0) refl,
   (

@@ -21,3 +21,6 @@ pub mod PureEquilibria
 pub mod Coins
 pub mod PurePoints
 pub mod LeafLaws
+pub mod Holding
+pub mod RayLaws
+pub mod RaySums

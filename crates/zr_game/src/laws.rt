@@ -9,6 +9,7 @@ ghost use Rattle.zr_game.specs.Profiles.{IsOfKind, IsProfile, Profile, deviation
 ghost use Rattle.zr_game.specs.PureProfiles.{IsStableAt, points_of};
 ghost use Rattle.zr_game.specs.Equilibria.{HasNoEquilibrium, IsEquilibrium};
 ghost use Rattle.zr_game.specs.Means.{IsBestAlongSlope, along_slope, mean, rest};
+ghost use Rattle.zr_game.specs.Leaves.{MeetsLeaf, root_leaf};
 ghost use Rattle.zr_game.specs.Rays.{Direction, IsRay, IsRelaxedRay, StaysFeasible};
 ghost use Rattle.zr_game.specs.Pennies.{half_half, pennies};
 ghost use Rattle.zr_game.specs.declared.kind.Kind.TheVariants.{Pure};
@@ -71,7 +72,8 @@ pub fn law_of_pennies()
 /// A direction is a ray at a base exactly where each whole multiple of it leads from the base to a
 /// feasible point.
 pub fn law_of_rays()
-    ensures { (player : PlayerOf) (base : PointOf) (dir : Direction) → length base.num ≡ length player.vars → length dir ≡ length player.vars
+    ensures { (game : GameOf) → IsGame game → (i : ℕ) (player : PlayerOf) → IsPlayer game i player
+        → (base : PointOf) (dir : Direction) → length base.num ≡ length player.vars → length dir ≡ length player.vars
         → (IsRay player base dir ↔ StaysFeasible player base dir) }
 {}
 
@@ -79,4 +81,10 @@ pub fn law_of_rays()
 pub fn law_of_relaxed_rays()
     ensures { (game : GameOf) → IsGame game → (i : ℕ) (player : PlayerOf) → IsPlayer game i player
         → (base : PointOf) (dir : Direction) → IsRay player base dir → IsRelaxedRay player dir }
+{}
+
+/// A feasible point meets the leaf of all points.
+pub fn law_of_root_leaf()
+    ensures { (game : GameOf) → IsGame game → (i : ℕ) (player : PlayerOf) → IsPlayer game i player
+        → (x : PointOf) → IsFeasible player x → MeetsLeaf player (root_leaf player) x }
 {}

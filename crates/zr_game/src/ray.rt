@@ -67,9 +67,17 @@ fn rows_keep(rows: &[Row], dir: &[i128]) -> Result<bool, Wide>
 {
     let mut all = true;
     for row in rows {
-        all &= along(row.coef.as_slice(), dir)? <= 0;
+        all &= row_keeps(row, dir)?;
     }
     Ok(all)
+}
+
+fn row_keeps(row: &Row, dir: &[i128]) -> Result<bool, Wide>
+    requires { IsRowForm (length dir.now) (row_of row.now) }
+    ensures { Tells result (KeepsRow dir.now (row_of row.now)) (along_wide dir.now (row_of row.now).coef) }
+{
+    let change = along(row.coef.as_slice(), dir)?;
+    Ok(change <= 0)
 }
 
 fn pairs_keep(pairs: &[Pair], base: &Point, dir: &[i128]) -> Result<bool, Wide>
@@ -109,6 +117,13 @@ fn pair_keeps(pair: &Pair, base: &Point, dir: &[i128]) -> Result<bool, Wide>
         unreachable!()
     };
     let var = pair.var as usize;
-    let stays = base.num(var) == 0 && dir[var] == 0;
-    Ok(change >= 0 && (stays || slack == 0 && change == 0))
+    Ok(stays_complementary((base.num(var), dir[var]), (slack, change)))
+}
+
+/// Whether of a variable and a sum, each with its change, the sum doesn't fall, and one of the two
+/// is 0 and doesn't change.
+fn stays_complementary(var: (i128, i128), sum: (i128, i128)) -> bool
+    ensures { IsTrue result ↔ ((pos 0 ≤ℤ sum.1) × (((var.0 ≡ pos 0) × (var.1 ≡ pos 0)) ⊎ ((sum.0 ≡ pos 0) × (sum.1 ≡ pos 0)))) }
+{
+    sum.1 >= 0 && (var.0 == 0 && var.1 == 0 || sum.0 == 0 && sum.1 == 0)
 }

@@ -11,4 +11,4 @@ returns c =
     let s = slack_is (pair_of c.args.pair.now) c.args.point.now c.in_ok-slack.slack e in
     let f : FitsSigned w128 c.in_ok-slack.slack = search rules in
     let g : FitsSigned w128 c.num.result = search rules in
-    (rw e refl, rw (s, c.num.ensures.value) at (simp to_z-of_z at c.is_settled.ensures))
+    (rw e refl, rw (s, c.num.ensures.value) at (simp to_z-of_z at c.is_complementary.ensures))
