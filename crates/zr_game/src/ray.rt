@@ -13,7 +13,7 @@ ghost use Rattle.zr_game.specs.RaySteps.{along_wide, ray_wide};
 
 use crate::game::Game;
 use crate::player::{Pair, Player, Var};
-use crate::substitution::{feasible, slack_at};
+use crate::substitution::{is_feasible, slack_at};
 use zr_base::{Point, Row, Wide, add_product};
 
 /// Whether the direction is a ray of player `i`, which is below the number of players, at the base:
@@ -37,7 +37,17 @@ pub fn is_ray(game: &Game, i: u32, base: &Point, dir: &[i128]) -> Result<bool, W
     if base.len() != player.vars.len() || dir.len() != player.vars.len() {
         return Ok(false);
     }
-    let starts = feasible(game, i, base)?;
+    is_ray_of(player, base, dir)
+}
+
+fn is_ray_of(player: &Player, base: &Point, dir: &[i128]) -> Result<bool, Wide>
+    requires base { length base.now.num ≡ length (player_of player.now).vars }
+    requires dir { length dir.now ≡ length (player_of player.now).vars }
+    requires rows { All (IsRowForm (length (player_of player.now).vars)) (player_of player.now).rows }
+    requires pairs { All (IsPairForm (length (player_of player.now).vars)) (player_of player.now).pairs }
+    ensures { Tells result (IsRay (player_of player.now) base.now dir.now) (ray_wide (player_of player.now) base.now dir.now) }
+{
+    let starts = is_feasible(player, base)?;
     let rows = rows_keep(&player.rows, dir)?;
     let pairs = pairs_keep(&player.pairs, base, dir)?;
     Ok(starts & bounds_keep(&player.vars, dir) & rows & pairs)

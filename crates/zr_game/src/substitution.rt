@@ -31,7 +31,8 @@ pub fn feasible(game: &Game, i: u32, point: &Point) -> Result<bool, Wide>
     is_feasible(player, point)
 }
 
-fn is_feasible(player: &Player, point: &Point) -> Result<bool, Wide>
+/// Whether the point, which has a number for each variable, is one of the player.
+pub(crate) fn is_feasible(player: &Player, point: &Point) -> Result<bool, Wide>
     requires len { length point.now.num ≡ length (player_of player.now).vars }
     requires rows { All (IsRowForm (length point.now.num)) (player_of player.now).rows }
     requires pairs { All (IsPairForm (length point.now.num)) (player_of player.now).pairs }

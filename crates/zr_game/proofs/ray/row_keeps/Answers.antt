@@ -1,6 +1,6 @@
-use Rattle.std.proofs.Common.{rules, length, ap, sym, refl, ◌∙◌, pos, FitsSigned}
+use Rattle.std.proofs.Common.{rules, arith, length, ap, sym, refl, ◌∙◌, pos, FitsSigned}
 use Rattle.std.specs.Int.{w128}
-use Rattle.std.proofs.lemmas.Int.{to_z-of_z}
+use Rattle.std.proofs.lemmas.Int.{ints, to_z-of_z}
 use Rattle.std.proofs.lemmas.Result.{err_from_is_err_and}
 use Rattle.zr_base.specs.Tests.{wide_in}
 use Rattle.zr_game.specs.Forms.{IsCoefficient}
@@ -17,4 +17,4 @@ returns c =
     let e = sym (rw c.as_slice.ensures at c.along.ensures) ∙ c.in_ok-change.was in
     let s = along_is c.args.row.now.coef.items c.args.dir.now c.in_ok-change.change e in
     let f : FitsSigned w128 c.in_ok-change.change = search rules in
-    simp to_z-of_z (rw (e, ← s) ?)
+    simp to_z-of_z (rw (e, ← s) (refl, search rules))
