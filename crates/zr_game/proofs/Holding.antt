@@ -1,8 +1,8 @@
 -- Each slot of a leaf holds at the feasible points inside it.
-use Rattle.std.proofs.Common.{◌≡◌, ℕ, zero, suc, ◌+◌, ◌<◌, arith, refl, sym, ap, subst, ◌∙◌, ℤ, pos, negsuc, neg_ℤ, ◌+ℤ◌, ◌*ℤ◌, ◌≤ℤ◌, IfSome, Option, Some, None, option_and_then, List, [], ◌∷◌, ◌++◌, map, length, slice_get, All}
+use Rattle.std.proofs.Common.{◌≡◌, ℕ, zero, suc, ◌+◌, ◌<◌, arith, refl, sym, subst, ◌∙◌, ℤ, pos, negsuc, neg_ℤ, ◌*ℤ◌, ◌≤ℤ◌, IfSome, Option, Some, None, option_and_then, List, [], ◌∷◌, map, length, slice_get, All}
 use Rattle.std.proofs.lemmas.Int.{ints}
 use Rattle.zr_base.specs.Sums.{sum_products, sum_to}
-use Rattle.zr_base.specs.Terms.{Ascends, coef_at, value_at}
+use Rattle.zr_base.specs.Terms.{Ascends, coef_at}
 use Rattle.zr_base.specs.Points.{PointOf, num_of}
 use Rattle.zr_base.specs.Rows.{RowHolds, RowOf, products}
 use Rattle.zr_base.proofs.Ring.{neg-mul_left}
@@ -15,7 +15,7 @@ use Rattle.zr_game.specs.declared.leaf.Side.TheVariants.{Undecided, VarZero, Row
 use Rattle.zr_game.specs.Players.{PairOf, PlayerOf, VarOf}
 use Rattle.zr_game.specs.Forms.{IsPairForm, IsRowForm}
 use Rattle.zr_game.specs.Feasible.{IsFeasible, PairHolds, slack}
-use Rattle.zr_game.specs.Leaves.{Bound, BoundHolds, LeafOf, MeetsLeaf, at_column, high_slot, low_slot, pair_slots, root_leaf, row_slot, side_slot, slot_of, slots, var_slots}
+use Rattle.zr_game.specs.Leaves.{Bound, BoundHolds, LeafOf, MeetsLeaf, high_slot, low_slot, pair_slots, root_leaf, row_slot, side_slot, slot_of, slots, var_slots}
 use Rattle.zr_game.proofs.Columns.{one_column}
 use Rattle.zr_game.proofs.TermColumns.{ascends}
 
@@ -115,11 +115,11 @@ var_found vars v pick b e = look (slice_get vars v) refl e
 pub in_root : (player : PlayerOf) (x : PointOf) → IsFeasible player x → Inside player (root_leaf player) x
 in_root player x f = record {
   lows = λ v l h e.
-    let w = var_found player.vars v (λ var. var.low) l e in
-    subst (λ (o : Option ℤ). IfSome o (λ low. (low *ℤ x.den) ≤ℤ num_of x v)) w.2 (f.bounds v w.0 w.1).low;
+      let w = var_found player.vars v (λ var. var.low) l e in
+      subst (λ (o : Option ℤ). IfSome o (λ low. (low *ℤ x.den) ≤ℤ num_of x v)) w.2 (f.bounds v w.0 w.1).low;
   highs = λ v u h e.
-    let w = var_found player.vars v (λ var. var.up) u e in
-    subst (λ (o : Option ℤ). IfSome o (λ up. num_of x v ≤ℤ (up *ℤ x.den))) w.2 (f.bounds v w.0 w.1).high;
+      let w = var_found player.vars v (λ var. var.up) u e in
+      subst (λ (o : Option ℤ). IfSome o (λ up. num_of x v ≤ℤ (up *ℤ x.den))) w.2 (f.bounds v w.0 w.1).high;
   sides = λ p pair e. tt;
 }
 

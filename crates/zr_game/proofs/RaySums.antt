@@ -1,5 +1,5 @@
 -- Sums along a direction, and steps that are known to be narrow.
-use Rattle.std.proofs.Common.{◌≡◌, ◌↔◌, Bool, ◌&&◌, IsTrue, All, ℕ, zero, suc, ◌<◌, arith, refl, ap, sym, ◌∙◌, ℤ, pos, ◌+ℤ◌, Option, Some, None, Ok, List, [], ◌∷◌, length, map, get_or}
+use Rattle.std.proofs.Common.{◌≡◌, ◌↔◌, Bool, ◌&&◌, IsTrue, All, ℕ, zero, suc, ◌<◌, arith, refl, ap, sym, ◌∙◌, ℤ, pos, Option, Some, None, Ok, List, [], ◌∷◌, length, map, get_or}
 use Rattle.std.proofs.lemmas.Int.{ints}
 use Rattle.zr_base.specs.declared.step.Wide.{Wide}
 use Rattle.zr_base.specs.Rows.{products}

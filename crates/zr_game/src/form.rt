@@ -217,7 +217,9 @@ fn are_others(others: &[Other], i: usize, players: &[Player]) -> bool
 fn is_other(t: &Other, i: usize, players: &[Player]) -> bool
     ensures { IsTrue result ↔ IsOtherForm (players_of players.now) i t.now }
 {
-    is_others_var(t.first, i, players) && is_second(t.first, t.second, i, players) && is_coefficient(t.coef)
+    is_others_var(t.first, i, players)
+        && is_second(t.first, t.second, i, players)
+        && is_coefficient(t.coef)
 }
 
 /// Whether the second variable, where there is one, is that of a later player than the first.

@@ -19,7 +19,8 @@ pub use game::Game;
 pub use kind::Kind;
 pub use laws::{
     law_of_deviations, law_of_equilibria, law_of_means, law_of_pennies, law_of_pure_costs,
-    law_of_pure_equilibria, law_of_rays, law_of_relaxed_rays, law_of_root_leaf, law_of_same_costs, law_of_same_points,
+    law_of_pure_equilibria, law_of_rays, law_of_relaxed_rays, law_of_root_leaf, law_of_same_costs,
+    law_of_same_points,
 };
 pub use leaf::{Leaf, Side};
 pub use named::Named;

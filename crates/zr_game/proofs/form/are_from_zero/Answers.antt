@@ -15,15 +15,15 @@ loop-pair-preserved c =
     let item = c.pair-item in
     let told = c.is_from_zero-all.ensures in
     more_checked (λ v pair. IsFromZero vars pair.var) c.args.pairs.now c.loop-pair.pair-index
-      item.result c.loop-pair-test.true item.is c.loop-pair.all c.loop-pair.invariant
-      c.is_from_zero-all.result told
+    item.result c.loop-pair-test.true item.is c.loop-pair.all c.loop-pair.invariant
+    c.is_from_zero-all.result told
 
 pub returns : goal.returns
 returns c =
     let vars = map var_of c.args.vars.now in
     let pairs = c.args.pairs.now in
     let told =
-      all_checked (λ v pair. IsFromZero vars pair.var) pairs c.loop-pair.pair-index c.loop-pair.all
-        (omega arith) (omega arith) c.loop-pair.invariant
-      in
+    all_checked (λ v pair. IsFromZero vars pair.var) pairs c.loop-pair.pair-index c.loop-pair.all
+    (omega arith) (omega arith) c.loop-pair.invariant
+    in
     all_mapped pair_of (λ pair. IsFromZero vars pair.var) pairs c.loop-pair.all told

@@ -19,9 +19,9 @@ loop-t-preserved c =
     let within = c.loop-t-test.true in
     let found = get_or_default terms at d t within in
     more_checked (λ v t. IsOtherForm (players_of c.args.players.now) c.args.i t) terms at t within
-      found c.loop-t.all c.loop-t.invariant c.is_other-all.result c.is_other-all.ensures
+    found c.loop-t.all c.loop-t.invariant c.is_other-all.result c.is_other-all.ensures
 
 pub returns : goal.returns
 returns c =
     all_checked (λ v t. IsOtherForm (players_of c.args.players.now) c.args.i t) c.args.others.now
-      c.loop-t.t-index c.loop-t.all (omega arith) (omega arith) c.loop-t.invariant
+    c.loop-t.t-index c.loop-t.all (omega arith) (omega arith) c.loop-t.invariant

@@ -13,7 +13,7 @@ loop-k-preserved c =
     let d : CrossTerm = record { own = 0; player = 0; var = 0; coef = pos 0 } in
     let within = c.loop-k-test.true in
     more_order cross_order c.args.cross.now c.loop-k.k d c.loop-k.auto.k within c.loop-k.all
-      c.loop-k.invariant c.is_before-all.result c.is_before-all.ensures
+    c.loop-k.invariant c.is_before-all.result c.is_before-all.ensures
 
 pub returns : goal.returns
 returns c =

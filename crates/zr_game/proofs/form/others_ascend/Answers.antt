@@ -13,10 +13,10 @@ loop-k-preserved c =
     let d : Other = record { first = (0, 0); second = None; coef = pos 0 } in
     let within = c.loop-k-test.true in
     more_order other_order c.args.others.now c.loop-k.k d c.loop-k.auto.k within c.loop-k.all
-      c.loop-k.invariant c.is_other_before-all.result c.is_other_before-all.ensures
+    c.loop-k.invariant c.is_other_before-all.result c.is_other_before-all.ensures
 
 pub returns : goal.returns
 returns c =
     let end = c.loop-k-test.false in
     in_order other_order other_follows c.args.others.now c.loop-k.k c.loop-k.all end
-      c.loop-k.invariant
+    c.loop-k.invariant

@@ -1,4 +1,4 @@
-use Rattle.std.proofs.Common.{◌≡◌, rules, arith, ℤ, None, Some, true, slice_index_or}
+use Rattle.std.proofs.Common.{◌≡◌, arith, ℤ, None, Some, true, slice_index_or}
 use Rattle.zr_game.specs.Players.{var_of}
 use Rattle.zr_game.proofs.Checks.{all_checked, each_mapped, more_checked}
 use Rattle.zr_game.proofs.leaf.are_fixed.Goals as goal

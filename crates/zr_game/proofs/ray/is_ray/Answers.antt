@@ -1,8 +1,8 @@
-use Rattle.std.proofs.Common.{◌≡◌, ◌≢◌, ℕ, vec_len, ⊎_elim, ◌∙◌, sym, ap, subst, length, All}
+use Rattle.std.proofs.Common.{◌≡◌, ◌≢◌, ℕ, vec_len, ⊎_elim, ◌∙◌, sym, ap, subst, length}
 use Rattle.std.proofs.lemmas.List.{length-map}
 use Rattle.zr_base.specs.Tests.{Tells}
 use Rattle.zr_game.specs.Players.{PlayerOf, player_of, var_of}
-use Rattle.zr_game.specs.Forms.{IsPairForm, IsPlayer, IsPlayerForm, IsRowForm}
+use Rattle.zr_game.specs.Forms.{IsPlayer, IsPlayerForm}
 use Rattle.zr_game.specs.Games.{game_of}
 use Rattle.zr_game.specs.Rays.{IsRay}
 use Rattle.zr_game.specs.RaySteps.{ray_wide}

@@ -1,4 +1,4 @@
-use Rattle.std.proofs.Common.{◌≡◌, ◌∙◌, sym, subst, length, All}
+use Rattle.std.proofs.Common.{◌∙◌, sym, subst, All}
 use Rattle.std.proofs.lemmas.List.{length-map}
 use Rattle.std.proofs.lemmas.Result.{err_from_is_err_and}
 use Rattle.zr_game.specs.Forms.{IsPairForm, IsRowForm}

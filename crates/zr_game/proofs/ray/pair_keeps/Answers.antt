@@ -1,4 +1,4 @@
-use Rattle.std.proofs.Common.{rules, get_or, length, ap, sym, refl, ◌∙◌, pos, FitsSigned}
+use Rattle.std.proofs.Common.{rules, get_or, length, sym, refl, ◌∙◌, pos, FitsSigned}
 use Rattle.std.specs.Int.{w128}
 use Rattle.std.proofs.lemmas.Int.{to_z-of_z}
 use Rattle.zr_game.specs.Forms.{IsCoefficient}

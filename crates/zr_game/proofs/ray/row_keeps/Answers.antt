@@ -1,8 +1,6 @@
-use Rattle.std.proofs.Common.{rules, arith, length, ap, sym, refl, ◌∙◌, pos, FitsSigned}
+use Rattle.std.proofs.Common.{rules, length, sym, refl, ◌∙◌, FitsSigned}
 use Rattle.std.specs.Int.{w128}
-use Rattle.std.proofs.lemmas.Int.{ints, to_z-of_z}
-use Rattle.std.proofs.lemmas.Result.{err_from_is_err_and}
-use Rattle.zr_base.specs.Tests.{wide_in}
+use Rattle.std.proofs.lemmas.Int.{to_z-of_z}
 use Rattle.zr_game.specs.Forms.{IsCoefficient}
 use Rattle.zr_game.proofs.RaySums.{along_is}
 use Rattle.zr_game.proofs.TermColumns.{columns_exist}
