@@ -2,12 +2,13 @@
 use Rattle.std.proofs.Common.{◌≡◌, ◌≢◌, ℕ, zero, suc, ◌<◌, arith, refl, sym, subst, ◌∙◌, ℤ, pos, negsuc, ◌+ℤ◌, ◌*ℤ◌, ◌≤ℤ◌, ◌<ℤ◌, true, List, [], ◌∷◌, length, get_or, slice_get, Some, All, ◌⊎◌, inl, inr, ⊎_elim}
 use Rattle.std.proofs.lemmas.Int.{ints}
 use Rattle.std.proofs.lemmas.List.Elements.{All-cons, All-nil}
+use Rattle.zr_base.proofs.SameLaws.{same_point_refl}
 use Rattle.zr_base.specs.Fractions.{Fraction, IsAtMost, HaveSameCross}
 use Rattle.zr_base.specs.Points.{IsSamePoint, PointOf, num_of, value_of}
 use Rattle.zr_base.specs.Rows.{RowHolds}
 use Rattle.zr_game.specs.declared.player.CrossTerm.{CrossTerm}
-use Rattle.zr_game.specs.Players.{PlayerOf, VarOf}
-use Rattle.zr_game.specs.Forms.{HasVar, IsCoefficient, IsCrossForm, IsGame, IsPairForm, IsPlayer, IsPlayerForm, IsRowForm, IsVarForm}
+use Rattle.zr_game.specs.Players.{PairOf, PlayerOf, VarOf}
+use Rattle.zr_game.specs.Forms.{HasVar, IsCoefficient, IsCrossForm, IsFromZero, IsGame, IsOtherForm, IsPairForm, IsPlayer, IsPlayerForm, IsRowForm, IsVarForm}
 use Rattle.zr_game.specs.Feasible.{IsFeasible, IsWithin, PairHolds}
 use Rattle.zr_game.specs.Costs.{cost_of, point_of}
 use Rattle.zr_game.specs.Profiles.{IsProfile, IsStrategy, Part, Profile, strategy_of}
@@ -35,7 +36,7 @@ b = penny_player (pos 2) b_term
 
 -- the variable of a penny
 abbrev coin : VarOf
-coin = record { name = []; whole = true; up = Some (pos 1) }
+coin = record { name = []; whole = true; low = Some (pos 0); up = Some (pos 1) }
 
 one_of : (P : ℕ → PlayerOf → Type 0) → P 0 a → P 1 b → (i : ℕ) (player : PlayerOf) → IsPlayer pennies i player → P i player
 one_of P first second zero player e = let s : a ≡ player = cc in subst (P 0) s first
@@ -51,7 +52,7 @@ module _ (number : ℤ) (term : CrossTerm) where
   penny_feasible z low high = record {
     point = omega (arith, ints);
     len = refl;
-    bounds = λ v found e. let o = one_var v found e in subst (λ w. IsWithin w (num_of (penny z) v) (pos 1)) (sym o.1) (subst (λ k. IsWithin coin (num_of (penny z) k) (pos 1)) (sym o.0) (record { low = low; high = omega (arith, ints, high); whole = λ h. (z, omega (arith, ints)) }));
+    bounds = λ v found e. let o = one_var v found e in subst (λ w. IsWithin w (num_of (penny z) v) (pos 1)) (sym o.1) (subst (λ k. IsWithin coin (num_of (penny z) k) (pos 1)) (sym o.0) (record { low = omega (arith, ints, low); high = omega (arith, ints, high); whole = λ h. (z, omega (arith, ints)) }));
     rows = All-nil (RowHolds (penny z));
     pairs = All-nil (PairHolds (penny z));
   }
@@ -75,16 +76,24 @@ module _ (number : ℤ) (term : CrossTerm) where
     row_count = omega arith;
     pair_count = omega arith;
     cross_count = omega arith;
+    other_count = omega arith;
     vars = All-cons IsVarForm coin [] coin_form (All-nil IsVarForm);
     rows = All-nil (IsRowForm 1);
     pairs = All-nil (IsPairForm 1);
+    from_zero = All-nil (λ (pair : PairOf). IsFromZero (coin ∷ []) pair.var);
     cost = (omega arith, omega arith, number_form, tt);
     cross = All-cons (IsCrossForm pennies i 1) term [] (record { own = omega arith; player = there; other = apart; var = has; coef = coef_form }) (All-nil (IsCrossForm pennies i 1));
     cross_ascends = λ k j d below within. absurd (omega arith);
+    others = All-nil (IsOtherForm pennies i);
+    others_ascend = λ k j d below within. absurd (omega arith);
   }
     where
       coin_form : IsVarForm coin
-      coin_form up e = let s : pos 1 ≡ up = cc in rw (← s) (omega (arith, ints), omega (arith, ints))
+      coin_form = record {
+        low = λ z e. let s : pos 0 ≡ z = cc in rw (← s) (omega (arith, ints), omega (arith, ints));
+        up = λ z e. let s : pos 1 ≡ z = cc in rw (← s) (omega (arith, ints), omega (arith, ints));
+        ordered = λ l e u f. let s : pos 0 ≡ l = cc in let t : pos 1 ≡ u = cc in rw (← s, ← t) (omega (arith, ints));
+      }
 
 has_first : (k : ℕ) → HasVar pennies k 0
 has_first k player e = one_of (λ i p. 0 < length p.vars) (omega arith) (omega arith) k player e
@@ -138,11 +147,11 @@ pennies_stable = (equilibria pennies form halves valid).1 best
 
 -- a feasible point of a penny is that of 0 or of 1
 module _ (number : ℤ) (term : CrossTerm) (x : PointOf) (feasible : IsFeasible (penny_player number term) x) where
-  coin_value : IsWholeValue (num_of x 0) x.den (pos 1)
-  coin_value = whole_value (penny_player number term) x feasible 0 coin refl refl (pos 1) refl
+  coin_value : IsWholeValue (num_of x 0) x.den (pos 0) (pos 1)
+  coin_value = whole_value (penny_player number term) x feasible 0 coin refl refl (pos 0) (pos 1) refl refl
 
   is_penny : (k : ℤ) → num_of x 0 ≡ k *ℤ x.den → IsSamePoint x (penny k)
-  is_penny k e = (feasible.len, each)
+  is_penny k e = record { left = feasible.point; right = omega (arith, ints); len = feasible.len; values = each }
     where
       each : (v : ℕ) → HaveSameCross (value_of x v) (value_of (penny k) v)
       each zero = let one : num_of x 0 *ℤ pos 1 ≡ num_of x 0 = omega (arith, ints) in one ∙ e
@@ -162,35 +171,40 @@ module _ (number : ℤ) (term : CrossTerm) (x : PointOf) (feasible : IsFeasible 
       bit (pos (suc (suc n))) low high = absurd (omega (arith, ints, high))
       bit (negsuc n) low high = absurd (omega (arith, ints, low))
 
-two_same : (x y p q : PointOf) → (pos 0) <ℤ x.den → (pos 0) <ℤ y.den → (pos 0) <ℤ p.den → (pos 0) <ℤ q.den → IsSamePoint x p → IsSamePoint y q → AreSame (x ∷ y ∷ []) (p ∷ q ∷ [])
-two_same x y p q x_den y_den p_den q_den first second = record { dens = dens; other_dens = other_dens; values = values }
+two_same : (x y p q : PointOf) → IsSamePoint x p → IsSamePoint y q → AreSame (x ∷ y ∷ []) (p ∷ q ∷ [])
+two_same x y p q first second = record { dens = dens; other_dens = other_dens; values = values }
   where
     dens : (k : ℕ) → (pos 0) <ℤ (point_of (x ∷ y ∷ []) k).den
-    dens zero = x_den
-    dens (suc zero) = y_den
+    dens zero = first.left
+    dens (suc zero) = second.left
     dens (suc (suc k)) = omega (arith, ints)
 
     other_dens : (k : ℕ) → (pos 0) <ℤ (point_of (p ∷ q ∷ []) k).den
-    other_dens zero = p_den
-    other_dens (suc zero) = q_den
+    other_dens zero = first.right
+    other_dens (suc zero) = second.right
     other_dens (suc (suc k)) = omega (arith, ints)
 
     values : (k v : ℕ) → HaveSameCross (value_of (point_of (x ∷ y ∷ []) k) v) (value_of (point_of (p ∷ q ∷ []) k) v)
-    values zero v = first.1 v
-    values (suc zero) v = second.1 v
+    values zero v = first.values v
+    values (suc zero) v = second.values v
     values (suc (suc k)) v = refl
-
-same_itself : (x : PointOf) → IsSamePoint x x
-same_itself x = (refl, λ v. refl)
 
 module _ (x y : PointOf) (x_feasible : IsFeasible a x) (y_feasible : IsFeasible b y) (stable : IsStableAt pennies (x ∷ y ∷ [])) where
   a_stays : (k l z : ℤ) → IsSamePoint x (penny k) → IsSamePoint y (penny l) → (pos 0) ≤ℤ z → z ≤ℤ (pos 1) → IsAtMost (cost_of a 0 (penny k ∷ penny l ∷ [])) (cost_of a 0 (penny z ∷ penny l ∷ []))
   a_stays k l z first second low high =
-      costs_ordered a 0 (x ∷ y ∷ []) (penny z ∷ y ∷ []) (penny k ∷ penny l ∷ []) (penny z ∷ penny l ∷ []) (two_same x y (penny k) (penny l) x_feasible.point y_feasible.point (omega (arith, ints)) (omega (arith, ints)) first second) (two_same (penny z) y (penny z) (penny l) (omega (arith, ints)) y_feasible.point (omega (arith, ints)) (omega (arith, ints)) (same_itself (penny z)) second) (stable 0 a refl (penny z) (penny_feasible (negsuc 1) a_term z low high))
+      let other = same_point_refl (penny z) (omega (arith, ints)) in
+      let before = two_same x y (penny k) (penny l) first second in
+      let after = two_same (penny z) y (penny z) (penny l) other second in
+      let stays = stable 0 a refl (penny z) (penny_feasible (negsuc 1) a_term z low high) in
+      costs_ordered a 0 (x ∷ y ∷ []) (penny z ∷ y ∷ []) (penny k ∷ penny l ∷ []) (penny z ∷ penny l ∷ []) before after stays
 
   b_stays : (k l z : ℤ) → IsSamePoint x (penny k) → IsSamePoint y (penny l) → (pos 0) ≤ℤ z → z ≤ℤ (pos 1) → IsAtMost (cost_of b 1 (penny k ∷ penny l ∷ [])) (cost_of b 1 (penny k ∷ penny z ∷ []))
   b_stays k l z first second low high =
-      costs_ordered b 1 (x ∷ y ∷ []) (x ∷ penny z ∷ []) (penny k ∷ penny l ∷ []) (penny k ∷ penny z ∷ []) (two_same x y (penny k) (penny l) x_feasible.point y_feasible.point (omega (arith, ints)) (omega (arith, ints)) first second) (two_same x (penny z) (penny k) (penny z) x_feasible.point (omega (arith, ints)) (omega (arith, ints)) (omega (arith, ints)) first (same_itself (penny z))) (stable 1 b refl (penny z) (penny_feasible (pos 2) b_term z low high))
+      let other = same_point_refl (penny z) (omega (arith, ints)) in
+      let before = two_same x y (penny k) (penny l) first second in
+      let after = two_same x (penny z) (penny k) (penny z) first other in
+      let stays = stable 1 b refl (penny z) (penny_feasible (pos 2) b_term z low high) in
+      costs_ordered b 1 (x ∷ y ∷ []) (x ∷ penny z ∷ []) (penny k ∷ penny l ∷ []) (penny k ∷ penny z ∷ []) before after stays
 
   zero_zero : IsSamePoint x (penny (pos 0)) → IsSamePoint y (penny (pos 0)) → ⊥
   zero_zero p q = let h = a_stays (pos 0) (pos 0) (pos 1) p q (omega (arith, ints)) (omega (arith, ints)) in omega (arith, ints, h)

@@ -44,15 +44,3 @@ cross_columns columns [] h e all =
     sum_to_same columns (λ v. pos 0 *ℤ e v) (λ v. pos 0) (λ v p. omega (arith, ints)) ∙ sum_to_zero columns
 cross_columns columns (t ∷ ts) h e all =
     sum_to_same columns (λ v. sum_list (filter (λ u. u.own == v) (t ∷ ts)) h *ℤ e v) (λ v. cond (t.own == v) (h t) (pos 0) *ℤ e v +ℤ sum_list (filter (λ u. u.own == v) ts) h *ℤ e v) (λ v p. ap (λ x. x *ℤ e v) (filter_sum (t.own == v) t (filter (λ u. u.own == v) ts) h) ∙ mul-add_right (cond (t.own == v) (h t) (pos 0)) (sum_list (filter (λ u. u.own == v) ts) h) (e v)) ∙ sum_to-add columns (λ v. cond (t.own == v) (h t) (pos 0) *ℤ e v) (λ v. sum_list (filter (λ u. u.own == v) ts) h *ℤ e v) ∙ ap₂ ◌+ℤ◌ (one_column columns t.own (h t) e all.0) (cross_columns columns ts h e all.1)
-
-pub Each_filter : {A : Type 0} (P : A → Type 0) (test : A → Bool) (xs : List A) → Each P xs → Each P (filter test xs)
-Each_filter P test [] all = tt
-Each_filter P test (x ∷ xs) all = keep (test x) (Each_filter P test xs all.1)
-  where
-    keep : (b : Bool) → Each P (filter test xs) → Each P (cond b (x ∷ filter test xs) (filter test xs))
-    keep true rest = (all.0, rest)
-    keep false rest = rest
-
-pub Each_more : {A : Type 0} (P Q : A → Type 0) (xs : List A) → ((x : A) → P x → Q x) → Each P xs → Each Q xs
-Each_more P Q [] h all = tt
-Each_more P Q (x ∷ xs) h all = (h x all.0, Each_more P Q xs h all.1)

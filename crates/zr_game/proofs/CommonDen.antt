@@ -1,5 +1,5 @@
 -- A denominator that all points of a profile share.
-use Rattle.std.proofs.Common.{◌≡◌, ℕ, zero, suc, ◌<◌, arith, refl, sym, ap, subst, ◌∙◌, ℤ, pos, ◌*ℤ◌, ◌<ℤ◌, ◌≤ℤ◌, unsigned_abs, List, [], ◌∷◌, length, All}
+use Rattle.std.proofs.Common.{◌≡◌, ℕ, zero, suc, ◌<◌, arith, refl, sym, ap, subst, ◌∙◌, ℤ, pos, ◌*ℤ◌, ◌<ℤ◌, ◌≤ℤ◌, unsigned_abs, List, [], ◌∷◌, length}
 use Rattle.std.proofs.lemmas.Int.{ints, unsigned_abs-mul}
 use Rattle.std.proofs.Math.Nat.{dvd-mul_left}
 use Rattle.std.specs.Int.{◌∣◌}
@@ -9,11 +9,6 @@ use Rattle.zr_base.proofs.Worth.{Each}
 use Rattle.zr_base.specs.Points.{PointOf}
 use Rattle.zr_game.proofs.Shared.{AreShared, Shares}
 use Rattle.zr_game.specs.Profiles.{Part, Profile, Strategy, strategy_of, total}
-
-pub each_of_all : {A : Type 0} (P : A → Type 0) (xs : List A) → All P xs → Each P xs
-each_of_all P [] all = tt
-each_of_all P (x ∷ xs) all =
-    (all 0 x (omega arith), each_of_all P xs (λ k d h. all (suc k) d (omega arith)))
 
 abbrev pub HasDen : Part → Type 0
 HasDen part = (pos 0) <ℤ part.point.den

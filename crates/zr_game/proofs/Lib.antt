@@ -20,6 +20,7 @@ pub mod WholePoints
 pub mod PureEquilibria
 pub mod Coins
 pub mod PurePoints
+pub mod PureCosts
 pub mod LeafLaws
 pub mod Holding
 pub mod RayLaws

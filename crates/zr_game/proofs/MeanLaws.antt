@@ -1,24 +1,29 @@
 -- The laws of means, over the definitions.
-use Rattle.std.proofs.Common.{◌≡◌, ◌≢◌, ◌↔◌, ℕ, zero, suc, ◌<◌, ◌==◌, arith, refl, sym, ap, ap₂, subst, ◌∙◌, ℤ, pos, ◌*ℤ◌, ◌<ℤ◌, ◌≤ℤ◌, ◌≤◌, List, [], ◌∷◌, length, get_or, slice_get, Some, None, ⊎_elim, get_or-set_other, get_or-set_same, length-set}
+use Rattle.std.proofs.Common.{◌≡◌, ◌≢◌, ◌↔◌, ℕ, zero, suc, ◌<◌, ◌==◌, arith, refl, sym, ap, ap₂, subst, ◌∙◌, ℤ, pos, ◌*ℤ◌, ◌<ℤ◌, ◌≤ℤ◌, ◌≤◌, Option, List, [], ◌∷◌, length, get_or, slice_get, Some, None, ⊎_elim, get_or-set_other, get_or-set_same, length-set}
 use Rattle.std.specs.List.{filter}
+use Rattle.std.specs.Option.{option_map_or}
 use Rattle.std.proofs.lemmas.Int.{ints}
 use Rattle.std.proofs.lemmas.Bool.{cases_eq}
 use Rattle.std.proofs.lemmas.List.Elements.{All-cons, All-nil}
 use Rattle.std.proofs.lemmas.Option.{slice_get_within, slice_get_cases}
 use Rattle.zr_base.proofs.Divisors.{mul_positive}
+use Rattle.zr_base.proofs.Members.{each_filter, each_of_all, each_weaker}
 use Rattle.zr_base.proofs.Ring.{spread}
-use Rattle.zr_base.proofs.Worth.{Each, Worth, at_most, worth_of_same}
-use Rattle.zr_base.specs.Fractions.{Fraction, IsAtMost, HaveSameCross, plus, sum_below, sum_over, times, whole}
+use Rattle.zr_base.proofs.SameLaws.{order_same, same_sym}
+use Rattle.zr_base.proofs.Worth.{Each, le_of_times, le_times}
+use Rattle.zr_base.specs.Fractions.{Fraction, IsAtMost, HaveSameCross, IsSame, plus, sum_below, sum_over, times, whole}
 use Rattle.zr_base.specs.Points.{PointOf, value_of}
 use Rattle.zr_base.specs.Terms.{Ascends, coef_at}
-use Rattle.zr_game.proofs.ByMeans.{IsCross, by_means, expected_positive, mean_positive, slope_positive}
-use Rattle.zr_game.proofs.Columns.{Each_filter, Each_more}
+use Rattle.zr_game.specs.declared.player.CrossTerm.{CrossTerm}
+use Rattle.zr_game.specs.declared.player.Other.{Other}
+use Rattle.zr_game.proofs.ByMeans.{IsCross, IsFar, IsOther, by_means, expected_positive, mean_positive, rest_positive, slope_positive}
 use Rattle.zr_game.proofs.TermColumns.{ascends}
-use Rattle.zr_game.proofs.CommonDen.{HasDen, den_of_all, each_of_all, each_strategy, positive_all, shared_by_all, total_positive}
+use Rattle.zr_game.proofs.CommonDen.{HasDen, den_of_all, each_strategy, positive_all, shared_by_all, total_positive}
+use Rattle.zr_game.specs.Costs.{other_at}
 use Rattle.zr_game.specs.Equilibria.{IsEquilibrium}
 use Rattle.zr_game.specs.Feasible.{IsFeasible}
-use Rattle.zr_game.specs.Forms.{IsCrossForm, IsGame, IsPlayer, IsPlayerForm}
-use Rattle.zr_game.specs.Means.{IsBestAlongSlope, along_slope, mean, slope}
+use Rattle.zr_game.specs.Forms.{IsCrossForm, IsGame, IsOtherForm, IsOthersVar, IsPlayer, IsPlayerForm}
+use Rattle.zr_game.specs.Means.{IsBestAlongSlope, along_slope, mean, mean_at_place, rest, slope}
 use Rattle.zr_game.specs.Players.{GameOf, PlayerOf}
 use Rattle.zr_game.specs.Profiles.{IsProfile, IsStrategy, Part, Profile, Strategy, deviation, expected_cost, strategy_of, surely, total}
 
@@ -38,19 +43,31 @@ over_same : {A : Type 0} (P : A → Type 0) (xs : List A) (f g : A → Fraction)
 over_same P [] f g h all = refl
 over_same P (x ∷ xs) f g h all = ap₂ plus (h x all.0) (over_same P xs f g h all.1)
 
-own_worth : (a b c : ℤ) → a *ℤ (b *ℤ c) ≡ (a *ℤ c) *ℤ b
-own_worth a b c = simp spread refl
+-- the same added to both changes no comparison
+module _ (a b r : Fraction) (positive : (pos 0) <ℤ r.den) where
+  square : (pos 0) <ℤ (r.den *ℤ r.den)
+  square = mul_positive r.den r.den positive positive
 
-other_worth : (a b c : ℤ) → a *ℤ (b *ℤ c) ≡ (a *ℤ b) *ℤ c
-other_worth a b c = simp spread refl
+  more_at_most : IsAtMost a b → IsAtMost (plus a r) (plus b r)
+  more_at_most h =
+      let m = simp spread at (le_times (a.num *ℤ b.den) (b.num *ℤ a.den) (r.den *ℤ r.den) square h) in
+      simp spread (omega (arith, ints, m))
 
--- fractions of the same values are ordered alike
-pub order_same : (a b a' b' : Fraction) → (pos 0) <ℤ a.den → (pos 0) <ℤ b.den → (pos 0) <ℤ a'.den → (pos 0) <ℤ b'.den → HaveSameCross a a' → HaveSameCross b b' → IsAtMost a b → IsAtMost a' b'
-order_same a b a' b' p q p' q' s t h =
-    let d = a.den *ℤ b.den in
-    let left : Worth d a (a.num *ℤ b.den) = record { below = p; equal = own_worth a.num a.den b.den } in
-    let right : Worth d b (b.num *ℤ a.den) = record { below = q; equal = other_worth b.num a.den b.den } in
-    at_most d a' b' (a.num *ℤ b.den) (b.num *ℤ a.den) (mul_positive a.den b.den p q) (worth_of_same d a a' (a.num *ℤ b.den) p' s left) (worth_of_same d b b' (b.num *ℤ a.den) q' t right) h
+  less_at_most : IsAtMost (plus a r) (plus b r) → IsAtMost a b
+  less_at_most h =
+      let m = simp spread at h in
+      le_of_times (a.num *ℤ b.den) (b.num *ℤ a.den) (r.den *ℤ r.den) square (simp spread (omega (arith, ints, m)))
+
+-- a term in the others' variables, where these have equal values
+other_equal : (f g : ℕ × ℕ → Fraction) (t : Other) → f t.first ≡ g t.first → ((at : ℕ × ℕ) → t.second ≡ Some at → f at ≡ g at) → other_at f t ≡ other_at g t
+other_equal f g t first second = on t.second second
+  where
+    one : times (whole t.coef) (f t.first) ≡ times (whole t.coef) (g t.first)
+    one = ap (times (whole t.coef)) first
+
+    on : (o : Option (ℕ × ℕ)) → ((at : ℕ × ℕ) → o ≡ Some at → f at ≡ g at) → option_map_or (λ at. times (times (whole t.coef) (f t.first)) (f at)) o (times (whole t.coef) (f t.first)) ≡ option_map_or (λ at. times (times (whole t.coef) (g t.first)) (g at)) o (times (whole t.coef) (g t.first))
+    on None h = one
+    on (Some at) h = ap₂ times one (h at refl)
 
 mean_surely : (x : PointOf) (v : ℕ) → HaveSameCross (mean (surely x) v) (value_of x v)
 mean_surely x v =
@@ -78,7 +95,7 @@ module _ (game : GameOf) (profile : Profile) (valid : IsProfile game profile) wh
 
   dens : Each (Each HasDen) profile
   dens =
-      each_strategy (Each HasDen) profile (strategy_is (Each HasDen) (λ player parts s. Each_more (λ part. IsFeasible player part.point) HasDen parts (λ part f. f.point) (each_of_all (λ part. IsFeasible player part.point) parts s.points)))
+      each_strategy (Each HasDen) profile (strategy_is (Each HasDen) (λ player parts s. each_weaker (λ part. IsFeasible player part.point) HasDen parts (λ part f. f.point) (each_of_all (λ part. IsFeasible player part.point) parts s.points)))
 
   module _ (i : ℕ) (player : PlayerOf) (is : IsPlayer game i player) where
     here : i < length profile
@@ -87,29 +104,52 @@ module _ (game : GameOf) (profile : Profile) (valid : IsProfile game profile) wh
   module _ (i : ℕ) (player : PlayerOf) (is : IsPlayer game i player) (form : IsPlayerForm game i player) where
     cross_form : Each (IsCross i (length player.vars) (length profile)) player.cross
     cross_form =
-        Each_more (IsCrossForm game i (length player.vars)) (IsCross i (length player.vars) (length profile)) player.cross (λ t f. (f.own, subst (λ n. t.player < n) (sym valid.len) f.player, f.other)) (each_of_all (IsCrossForm game i (length player.vars)) player.cross form.cross)
+        let Form = IsCrossForm game i (length player.vars) in
+        let of = λ (t : CrossTerm) (f : IsCrossForm game i (length player.vars) t). cross_of t f in
+        each_weaker Form (IsCross i (length player.vars) (length profile)) player.cross of (each_of_all Form player.cross form.cross)
+      where
+        cross_of : (t : CrossTerm) → IsCrossForm game i (length player.vars) t → IsCross i (length player.vars) (length profile) t
+        cross_of t f = record { own = f.own; player = subst (λ n. t.player < n) (sym valid.len) f.player; apart = f.other }
+
+    other_form : Each (IsOther i (length profile)) player.others
+    other_form =
+        each_weaker (IsOtherForm game i) (IsOther i (length profile)) player.others other_of (each_of_all (IsOtherForm game i) player.others form.others)
+      where
+        far : (at : ℕ × ℕ) → IsOthersVar game i at → IsFar i (length profile) at
+        far at f = record { player = subst (λ n. at.0 < n) (sym valid.len) f.player; apart = f.other }
+
+        other_of : (t : Other) → IsOtherForm game i t → IsOther i (length profile) t
+        other_of t f = record {
+          first = far t.first f.first;
+          second = λ at e. far at (f.second at e).1;
+          apart = λ at e same. let below = (f.second at e).0 in omega (arith, below, same);
+        }
 
     cost_form : Ascends 0 (length player.vars) player.cost
     cost_form = ascends player.cost 0 (length player.vars) form.cost
 
-    pub along : (f : ℕ → Fraction) → ((v : ℕ) → v < length player.vars → (pos 0) <ℤ (f v).den) → ((v : ℕ) → v < length player.vars → HaveSameCross (mean (strategy_of profile i) v) (f v)) → HaveSameCross (expected_cost player i profile) (along_slope player profile f)
+    pub along : (f : ℕ → Fraction) → ((v : ℕ) → v < length player.vars → (pos 0) <ℤ (f v).den) → ((v : ℕ) → v < length player.vars → HaveSameCross (mean (strategy_of profile i) v) (f v)) → IsSame (expected_cost player i profile) (plus (along_slope player profile f) (rest player profile))
     along f positive same =
-        by_means player i (length player.vars) profile (den_of_all profile) (positive_all profile dens) (shared_by_all profile dens) full (here i player is) cost_form cross_form f positive same
+        by_means player i (length player.vars) profile (den_of_all profile) (positive_all profile dens) (shared_by_all profile dens) full (here i player is) cost_form cross_form other_form f positive same
 
     pub mean_den : (v : ℕ) → (pos 0) <ℤ (mean (strategy_of profile i) v).den
     mean_den v =
-        mean_positive player i (length player.vars) profile (den_of_all profile) (positive_all profile dens) (shared_by_all profile dens) full (here i player is) cost_form cross_form i v (here i player is)
+        mean_positive player i (length player.vars) profile (den_of_all profile) (positive_all profile dens) (shared_by_all profile dens) full (here i player is) cost_form cross_form other_form i v (here i player is)
 
     pub slope_den : (v : ℕ) → (pos 0) <ℤ (slope player profile v).den
     slope_den v =
-        slope_positive player i (length player.vars) profile (den_of_all profile) (positive_all profile dens) (shared_by_all profile dens) full (here i player is) cost_form cross_form v
+        slope_positive player i (length player.vars) profile (den_of_all profile) (positive_all profile dens) (shared_by_all profile dens) full (here i player is) cost_form cross_form other_form v
 
-    pub at_mean : HaveSameCross (expected_cost player i profile) (along_slope player profile (mean (strategy_of profile i)))
+    pub rest_den : (pos 0) <ℤ (rest player profile).den
+    rest_den =
+        rest_positive player i (length player.vars) profile (den_of_all profile) (positive_all profile dens) (shared_by_all profile dens) full (here i player is) cost_form cross_form other_form
+
+    pub at_mean : IsSame (expected_cost player i profile) (plus (along_slope player profile (mean (strategy_of profile i))) (rest player profile))
     at_mean = along (mean (strategy_of profile i)) (λ v h. mean_den v) (λ v h. refl)
 
     pub expected_den : (pos 0) <ℤ (expected_cost player i profile).den
     expected_den =
-        expected_positive player i (length player.vars) profile (den_of_all profile) (positive_all profile dens) (shared_by_all profile dens) full (here i player is) cost_form cross_form
+        expected_positive player i (length player.vars) profile (den_of_all profile) (positive_all profile dens) (shared_by_all profile dens) full (here i player is) cost_form cross_form other_form
 
     pub along_den : (f : ℕ → Fraction) → ((v : ℕ) → (pos 0) <ℤ (f v).den) → (pos 0) <ℤ (along_slope player profile f).den
     along_den f positive =
@@ -134,34 +174,62 @@ module _ (game : GameOf) (profile : Profile) (valid : IsProfile game profile) (i
   module _ (form : IsPlayerForm game i player) where
     slope_same : (v : ℕ) → slope player (deviation profile i x) v ≡ slope player profile v
     slope_same v =
-        ap (plus (whole (coef_at player.cost v))) (over_same (IsCross i (length player.vars) (length profile)) (filter (λ t. t.own == v) player.cross) (λ t. times (whole t.coef) (mean (strategy_of (deviation profile i x) t.player) t.var)) (λ t. times (whole t.coef) (mean (strategy_of profile t.player) t.var)) (λ t f. ap (λ s. times (whole t.coef) (mean s t.var)) (others t.player f.2)) (Each_filter (IsCross i (length player.vars) (length profile)) (λ t. t.own == v) player.cross (cross_form game profile valid i player is form)))
+        let Cross = IsCross i (length player.vars) (length profile) in
+        let ts = filter (λ t. t.own == v) player.cross in
+        let f = λ (t : CrossTerm). times (whole t.coef) (mean (strategy_of (deviation profile i x) t.player) t.var) in
+        let g = λ (t : CrossTerm). times (whole t.coef) (mean (strategy_of profile t.player) t.var) in
+        let kept = λ (t : CrossTerm) (form : IsCross i (length player.vars) (length profile) t). ap (λ s. times (whole t.coef) (mean s t.var)) (others t.player form.apart) in
+        let all = each_filter Cross (λ t. t.own == v) player.cross (cross_form game profile valid i player is form) in
+        ap (plus (whole (coef_at player.cost v))) (over_same Cross ts f g kept all)
 
     along_same : (f : ℕ → Fraction) → along_slope player (deviation profile i x) f ≡ along_slope player profile f
     along_same f =
         below_same (length player.vars) (λ v. times (slope player (deviation profile i x) v) (f v)) (λ v. times (slope player profile v) (f v)) (λ v. ap (λ s. times s (f v)) (slope_same v))
 
-    pub at_deviation : HaveSameCross (expected_cost player i (deviation profile i x)) (along_slope player profile (value_of x))
+    rest_kept : rest player (deviation profile i x) ≡ rest player profile
+    rest_kept =
+        let f = mean_at_place (deviation profile i x) in
+        let g = mean_at_place profile in
+        over_same (IsOther i (length profile)) player.others (other_at f) (other_at g) (λ t form. other_equal f g t (far t.first form.first) (λ at e. far at (form.second at e))) (other_form game profile valid i player is form)
+      where
+        far : (at : ℕ × ℕ) → IsFar i (length profile) at → mean_at_place (deviation profile i x) at ≡ mean_at_place profile at
+        far at f = ap (λ s. mean s at.1) (others at.0 f.apart)
+
+    pub at_deviation : IsSame (expected_cost player i (deviation profile i x)) (plus (along_slope player profile (value_of x)) (rest player profile))
     at_deviation =
-        subst (λ a. HaveSameCross (expected_cost player i (deviation profile i x)) a) (along_same (value_of x)) (along game (deviation profile i x) deviation_valid i player is form (value_of x) (λ v h. feasible.point) (λ v h. subst (λ s. HaveSameCross (mean s v) (value_of x v)) (sym replaced) (mean_surely x v)))
+        let dev = deviation profile i x in
+        let cost = expected_cost player i dev in
+        let to_value = λ (v : ℕ) (h : v < length player.vars). subst (λ s. HaveSameCross (mean s v) (value_of x v)) (sym replaced) (mean_surely x v) in
+        let by = along game dev deviation_valid i player is form (value_of x) (λ v h. feasible.point) to_value in
+        subst (λ r. IsSame cost (plus (along_slope player profile (value_of x)) r)) rest_kept (subst (λ a. IsSame cost (plus a (rest player dev))) (along_same (value_of x)) by)
 
-    deviation_den : (pos 0) <ℤ (expected_cost player i (deviation profile i x)).den
-    deviation_den = expected_den game (deviation profile i x) deviation_valid i player is form
+    rest_above : (pos 0) <ℤ (rest player profile).den
+    rest_above = rest_den game profile valid i player is form
 
-    value_den : (pos 0) <ℤ (along_slope player profile (value_of x)).den
-    value_den = along_den game profile valid i player is form (value_of x) (λ v. feasible.point)
+    pub to_slope : IsAtMost (expected_cost player i profile) (expected_cost player i (deviation profile i x)) → IsAtMost (along_slope player profile (mean (strategy_of profile i))) (along_slope player profile (value_of x))
+    to_slope h =
+        let own = along_slope player profile (mean (strategy_of profile i)) in
+        let other = along_slope player profile (value_of x) in
+        let r = rest player profile in
+        let here = at_mean game profile valid i player is form in
+        less_at_most own other r rest_above (order_same (expected_cost player i profile) (expected_cost player i (deviation profile i x)) (plus own r) (plus other r) here at_deviation h)
 
-    module _ where
-      own_den : (pos 0) <ℤ (along_slope player profile (mean (strategy_of profile i))).den
-      own_den = along_den game profile valid i player is form (mean (strategy_of profile i)) (mean_den game profile valid i player is form)
-
-      pub to_slope : IsAtMost (expected_cost player i profile) (expected_cost player i (deviation profile i x)) → IsAtMost (along_slope player profile (mean (strategy_of profile i))) (along_slope player profile (value_of x))
-      to_slope =
-          order_same (expected_cost player i profile) (expected_cost player i (deviation profile i x)) (along_slope player profile (mean (strategy_of profile i))) (along_slope player profile (value_of x)) (expected_den game profile valid i player is form) deviation_den own_den value_den (at_mean game profile valid i player is form) at_deviation
-
-      pub of_slope : IsAtMost (along_slope player profile (mean (strategy_of profile i))) (along_slope player profile (value_of x)) → IsAtMost (expected_cost player i profile) (expected_cost player i (deviation profile i x))
-      of_slope =
-          order_same (along_slope player profile (mean (strategy_of profile i))) (along_slope player profile (value_of x)) (expected_cost player i profile) (expected_cost player i (deviation profile i x)) own_den value_den (expected_den game profile valid i player is form) deviation_den (sym (at_mean game profile valid i player is form)) (sym at_deviation)
+    pub of_slope : IsAtMost (along_slope player profile (mean (strategy_of profile i))) (along_slope player profile (value_of x)) → IsAtMost (expected_cost player i profile) (expected_cost player i (deviation profile i x))
+    of_slope h =
+        let own = along_slope player profile (mean (strategy_of profile i)) in
+        let other = along_slope player profile (value_of x) in
+        let r = rest player profile in
+        let before = expected_cost player i profile in
+        let after = expected_cost player i (deviation profile i x) in
+        let here = same_sym before (plus own r) (at_mean game profile valid i player is form) in
+        let there = same_sym after (plus other r) at_deviation in
+        order_same (plus own r) (plus other r) before after here there (more_at_most own other r rest_above h)
 
 pub equilibria : (game : GameOf) → IsGame game → (profile : Profile) → IsProfile game profile → IsEquilibrium game profile ↔ IsBestAlongSlope game profile
-equilibria game form profile valid =
-    (λ e i player is x feasible. to_slope game profile valid i player is x feasible (form.players i player is) (e.stable i player is x feasible), λ b. record { valid = valid; stable = λ i player is x feasible. of_slope game profile valid i player is x feasible (form.players i player is) (b i player is x feasible) })
+equilibria game form profile valid = (
+  λ e i player is x feasible. to_slope game profile valid i player is x feasible (form.players i player is) (e.stable i player is x feasible),
+  λ b. record {
+    valid = valid;
+    stable = λ i player is x feasible. of_slope game profile valid i player is x feasible (form.players i player is) (b i player is x feasible);
+  },
+)

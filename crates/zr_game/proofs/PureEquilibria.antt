@@ -1,12 +1,12 @@
 -- Pure profiles are compared by the costs at their points.
 use Rattle.std.proofs.Common.{◌≡◌, ◌↔◌, ℕ, arith, refl, sym, subst, ℤ, pos, ◌*ℤ◌, ◌<ℤ◌, List, [], ◌∷◌, slice_set, All}
 use Rattle.std.proofs.lemmas.Int.{ints}
-use Rattle.zr_base.specs.Fractions.{Fraction, IsAtMost, HaveSameCross, over, sum_over, times, whole}
+use Rattle.zr_base.specs.Fractions.{Fraction, IsAtMost, IsSame, HaveSameCross, over}
 use Rattle.zr_base.specs.Points.{PointOf, value_of}
 use Rattle.zr_base.proofs.Divisors.{mul_positive}
 use Rattle.zr_base.proofs.Ring.{spread}
+use Rattle.zr_base.proofs.SameLaws.{order_same}
 use Rattle.zr_base.proofs.Worth.{le_of_times, le_times}
-use Rattle.zr_game.specs.declared.player.CrossTerm.{CrossTerm}
 use Rattle.zr_game.specs.Players.{GameOf, PlayerOf}
 use Rattle.zr_game.specs.Forms.{IsPlayer}
 use Rattle.zr_game.specs.Feasible.{IsFeasible}
@@ -15,7 +15,7 @@ use Rattle.zr_game.specs.Profiles.{IsProfile, Profile, deviation, expected_cost,
 use Rattle.zr_game.specs.Equilibria.{IsEquilibrium}
 use Rattle.zr_game.specs.PureProfiles.{IsStableAt, points_of}
 use Rattle.zr_game.proofs.ByMeans.{totals_positive}
-use Rattle.zr_game.proofs.MeanLaws.{deviation_valid, full, order_same}
+use Rattle.zr_game.proofs.MeanLaws.{deviation_valid, full}
 use Rattle.zr_game.proofs.PureLaws.{IsOne, expected_is, points_of-deviation, pure_deviation, scaled}
 use Rattle.zr_game.proofs.SamePoints.{cost_same}
 
@@ -71,27 +71,22 @@ pure_equilibria game profile valid pure = (
   },
 )
 
-over_den : {A : Type 0} (xs : List A) (f : A → Fraction) → ((x : A) → (pos 0) <ℤ (f x).den) → (pos 0) <ℤ (sum_over xs f).den
-over_den [] f h = omega (arith, ints)
-over_den (x ∷ xs) f h = mul_positive (f x).den (sum_over xs f).den (h x) (over_den xs f h)
-
-one_times : (d : ℤ) → (pos 0) <ℤ d → (pos 0) <ℤ (pos 1 *ℤ d)
-one_times d h = omega (arith, ints)
-
--- a cost's denominator is above zero
-pub cost_den : (player : PlayerOf) (i : ℕ) (points : List PointOf) → ((k : ℕ) → (pos 0) <ℤ (point_of points k).den) → (pos 0) <ℤ (cost_of player i points).den
-cost_den player i points h =
-    let own = λ (t : ℕ × ℤ). times (whole t.1) (value_of (point_of points i) t.0) in
-    let cross = λ (t : CrossTerm). times (whole t.coef) (times (value_of (point_of points i) t.own) (value_of (point_of points t.player) t.var)) in
-    mul_positive (sum_over player.cost own).den (sum_over player.cross cross).den (over_den player.cost own (λ t. one_times (point_of points i).den (h i))) (over_den player.cross cross (λ t. one_times ((point_of points i).den *ℤ (point_of points t.player).den) (mul_positive (point_of points i).den (point_of points t.player).den (h i) (h t.player))))
-
 -- the points have the same values, player by player
 pub record AreSame (points others : List PointOf) : Type 0 where
   pub dens : (k : ℕ) → (pos 0) <ℤ (point_of points k).den
   pub other_dens : (k : ℕ) → (pos 0) <ℤ (point_of others k).den
   pub values : (k v : ℕ) → HaveSameCross (value_of (point_of points k) v) (value_of (point_of others k) v)
 
+pub costs_same : (player : PlayerOf) (i : ℕ) (a b : List PointOf) → AreSame a b → IsSame (cost_of player i a) (cost_of player i b)
+costs_same player i a b s =
+    cost_same player i a b (λ k v. record { left = s.dens k; right = s.other_dens k; cross = s.values k v })
+
+-- a cost's denominator is above zero
+pub cost_den : (player : PlayerOf) (i : ℕ) (points : List PointOf) → ((k : ℕ) → (pos 0) <ℤ (point_of points k).den) → (pos 0) <ℤ (cost_of player i points).den
+cost_den player i points h =
+    (costs_same player i points points (record { dens = h; other_dens = h; values = λ k v. refl })).left
+
 -- costs at points of the same values are ordered alike
 pub costs_ordered : (player : PlayerOf) (i : ℕ) (a b c d : List PointOf) → AreSame a c → AreSame b d → IsAtMost (cost_of player i a) (cost_of player i b) → IsAtMost (cost_of player i c) (cost_of player i d)
 costs_ordered player i a b c d p q =
-    order_same (cost_of player i a) (cost_of player i b) (cost_of player i c) (cost_of player i d) (cost_den player i a p.dens) (cost_den player i b q.dens) (cost_den player i c p.other_dens) (cost_den player i d q.other_dens) (cost_same player i a c p.values) (cost_same player i b d q.values)
+    order_same (cost_of player i a) (cost_of player i b) (cost_of player i c) (cost_of player i d) (costs_same player i a c p) (costs_same player i b d q)

@@ -76,7 +76,3 @@ each_deviation (s ∷ ss) (suc i) x all = (all.0, each_deviation ss i x all.1)
 -- a deviation of a pure profile is pure
 pub pure_deviation : (profile : Profile) (i : ℕ) (x : PointOf) → All IsOne profile → All IsOne (deviation profile i x)
 pure_deviation profile i x all = all_of (deviation profile i x) (each_deviation profile i x (each profile all))
-
-pub deviation_cost : (player : PlayerOf) (i : ℕ) (profile : Profile) (x : PointOf) → All IsOne profile → HaveSameCross (expected_cost player i (deviation profile i x)) (cost_of player i (slice_set (points_of profile) i x))
-deviation_cost player i profile x all =
-    subst (λ points. HaveSameCross (expected_cost player i (deviation profile i x)) (cost_of player i points)) (points_of-deviation profile i x) (pure_cost player i (deviation profile i x) (pure_deviation profile i x all))

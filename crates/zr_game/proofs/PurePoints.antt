@@ -1,7 +1,8 @@
 -- Lists of points as pure profiles, and lists of the same values.
-use Rattle.std.proofs.Common.{◌≡◌, ◌≢◌, ℕ, ◌<◌, arith, refl, sym, ap, subst, ◌∙◌, pos, ◌<ℤ◌, List, [], ◌∷◌, length, map, slice_set, All, ⊎_elim, get_or-set_other, get_or-set_same}
-use Rattle.std.proofs.lemmas.Bool.{cases_eq}
-use Rattle.std.proofs.lemmas.List.{get_or-map, length-map}
+use Rattle.std.proofs.Common.{◌≡◌, ◌≢◌, ℕ, ◌<◌, ◌≤◌, arith, refl, sym, ap, subst, ◌∙◌, pos, ◌<ℤ◌, List, [], ◌∷◌, length, map, slice_set, All, ⊎_elim, get_or-set_other, get_or-set_same}
+use Rattle.std.proofs.lemmas.Bool.{cases_eq, cases_lt}
+use Rattle.std.proofs.lemmas.Int.{ints}
+use Rattle.std.proofs.lemmas.List.{get_or-map, get_or_past, length-map}
 use Rattle.std.proofs.lemmas.List.Elements.{All-map}
 use Rattle.std.proofs.lemmas.Option.{slice_get_within}
 use Rattle.zr_base.specs.Fractions.{HaveSameCross}
@@ -12,6 +13,7 @@ use Rattle.zr_game.specs.Feasible.{IsFeasible}
 use Rattle.zr_game.specs.Costs.{point_of}
 use Rattle.zr_game.specs.Profiles.{IsProfile, IsStrategy, Profile, Strategy, strategy_of, surely}
 use Rattle.zr_game.specs.PureProfiles.{IsStableAt, first_point, points_of}
+use Rattle.zr_game.proofs.Items.{at_number}
 use Rattle.zr_game.proofs.MeanLaws.{surely_valid}
 use Rattle.zr_game.proofs.PureEquilibria.{AreSame, costs_ordered}
 use Rattle.zr_game.proofs.PureLaws.{IsOne}
@@ -20,6 +22,19 @@ use Rattle.zr_game.proofs.PureLaws.{IsOne}
 pub record AreFeasible (game : GameOf) (points : List PointOf) : Type 0 where
   pub len : length points ≡ length game
   pub feasible : (i : ℕ) (player : PlayerOf) → IsPlayer game i player → IsFeasible player (point_of points i)
+
+-- feasible points have denominators above zero, and so has the point of no player
+pub feasible_dens : (game : GameOf) (points : List PointOf) → AreFeasible game points → (k : ℕ) → (pos 0) <ℤ (point_of points k).den
+feasible_dens game points are k = ⊎_elim within past (cases_lt k (length points))
+  where
+    within : k < length points → (pos 0) <ℤ (point_of points k).den
+    within h =
+        let len = are.len in
+        let player = at_number game k (omega (arith, h, len)) in
+        (are.feasible k player.0 player.1).point
+
+    past : length points ≤ k → (pos 0) <ℤ (point_of points k).den
+    past h = rw (get_or_past points k (record { num = []; den = pos 1 }) h) (omega (arith, ints))
 
 -- the profile in which each player plays its point surely
 pub surely_profile : (game : GameOf) (points : List PointOf) → AreFeasible game points → IsProfile game (map surely points)

@@ -1,5 +1,5 @@
-ghost use Rattle.std.specs.Prelude.{◌≡◌, ◌↔◌, ℕ, List, [], ◌∷◌, pos, ◌<ℤ◌, length, slice_set};
-ghost use Rattle.zr_base.specs.Fractions.{HaveSameCross, plus};
+ghost use Rattle.std.specs.Prelude.{◌≡◌, ◌↔◌, ℕ, List, [], ◌∷◌, length, slice_set};
+ghost use Rattle.zr_base.specs.Fractions.{IsSame, plus};
 ghost use Rattle.zr_base.specs.Points.{IsSamePoint, PointOf, value_of};
 ghost use Rattle.zr_game.specs.Players.{GameOf, PlayerOf};
 ghost use Rattle.zr_game.specs.Forms.{IsGame, IsPlayer};
@@ -16,22 +16,26 @@ ghost use Rattle.zr_game.specs.declared.kind.Kind.TheVariants.{Pure};
 
 /// Points of the same values are feasible alike.
 pub fn law_of_same_points()
-    ensures { (player : PlayerOf) (x y : PointOf) → IsFeasible player x → pos 0 <ℤ y.den → IsSamePoint x y → IsFeasible player y }
+    ensures { (player : PlayerOf) (x y : PointOf) → IsFeasible player x → IsSamePoint x y → IsFeasible player y }
 {}
 
 /// Points of the same values cost the same.
 pub fn law_of_same_costs()
-    ensures { (player : PlayerOf) (i : ℕ) (points others : List PointOf) → ((k v : ℕ) → HaveSameCross (value_of (point_of points k) v) (value_of (point_of others k) v))
-        → HaveSameCross (cost_of player i points) (cost_of player i others) }
+    ensures { (player : PlayerOf) (i : ℕ) (points others : List PointOf)
+        → ((k v : ℕ) → IsSame (value_of (point_of points k) v) (value_of (point_of others k) v))
+        → IsSame (cost_of player i points) (cost_of player i others) }
 {}
 
 /// The expected cost of a pure profile is the cost at its points, and so it is where one player
 /// plays another point.
 pub fn law_of_pure_costs()
-    ensures played { (player : PlayerOf) (i : ℕ) (profile : Profile) → IsOfKind Pure profile
-        → HaveSameCross (expected_cost player i profile) (cost_of player i (points_of profile)) }
-    ensures deviated { (player : PlayerOf) (i : ℕ) (profile : Profile) → IsOfKind Pure profile → (x : PointOf)
-        → HaveSameCross (expected_cost player i (deviation profile i x)) (cost_of player i (slice_set (points_of profile) i x)) }
+    ensures played { (game : GameOf) (profile : Profile) → IsProfile game profile → IsOfKind Pure profile
+        → (i : ℕ) (player : PlayerOf) → IsPlayer game i player
+        → IsSame (expected_cost player i profile) (cost_of player i (points_of profile)) }
+    ensures deviated { (game : GameOf) (profile : Profile) → IsProfile game profile → IsOfKind Pure profile
+        → (i : ℕ) (player : PlayerOf) → IsPlayer game i player → (x : PointOf) → IsFeasible player x
+        → IsSame (expected_cost player i (deviation profile i x))
+        (cost_of player i (slice_set (points_of profile) i x)) }
 {}
 
 /// A pure profile is an equilibrium exactly where no player has a feasible point at which its cost
@@ -44,15 +48,17 @@ pub fn law_of_pure_equilibria()
 /// An expected cost is the sum of slope times mean, plus the player's terms in the others' variables
 /// alone at the others' means.
 pub fn law_of_means()
-    ensures { (game : GameOf) → IsGame game → (profile : Profile) → IsProfile game profile → (i : ℕ) (player : PlayerOf) → IsPlayer game i player
-        → HaveSameCross (expected_cost player i profile)
+    ensures { (game : GameOf) → IsGame game → (profile : Profile) → IsProfile game profile
+        → (i : ℕ) (player : PlayerOf) → IsPlayer game i player
+        → IsSame (expected_cost player i profile)
         (plus (along_slope player profile (mean (strategy_of profile i))) (rest player profile)) }
 {}
 
 /// A deviation costs the sum of slope times value, plus the same.
 pub fn law_of_deviations()
-    ensures { (game : GameOf) → IsGame game → (profile : Profile) → IsProfile game profile → (i : ℕ) (player : PlayerOf) → IsPlayer game i player → (x : PointOf) → IsFeasible player x
-        → HaveSameCross (expected_cost player i (deviation profile i x))
+    ensures { (game : GameOf) → IsGame game → (profile : Profile) → IsProfile game profile
+        → (i : ℕ) (player : PlayerOf) → IsPlayer game i player → (x : PointOf) → IsFeasible player x
+        → IsSame (expected_cost player i (deviation profile i x))
         (plus (along_slope player profile (value_of x)) (rest player profile)) }
 {}
 
