@@ -1,5 +1,5 @@
 -- Feasible points whose variables are whole and bounded are points with the denominator 1.
-use Rattle.std.proofs.Common.{◌≡◌, ℕ, ◌<◌, ◌≤◌, arith, refl, sym, ap, subst, ◌∙◌, ℤ, pos, ◌*ℤ◌, ◌≤ℤ◌, unsigned_abs, int_div, IsTrue, IfSome, Option, Some, None, List, length, map, slice_get, ⊎_elim}
+use Rattle.std.proofs.Common.{◌≡◌, ℕ, ◌<◌, ◌≤◌, arith, refl, sym, ap, subst, ◌∙◌, ℤ, pos, ◌*ℤ◌, ◌<ℤ◌, ◌≤ℤ◌, unsigned_abs, int_div, IsTrue, IfSome, Option, Some, None, List, length, map, slice_get, ⊎_elim}
 use Rattle.std.specs.Int.{◌∣◌}
 use Rattle.std.proofs.Math.Nat.{dvd-mul_left}
 use Rattle.std.proofs.lemmas.Int.{ints, unsigned_abs-mul}
@@ -15,23 +15,23 @@ use Rattle.zr_game.proofs.Items.{at_number}
 use Rattle.zr_game.proofs.SamePoints.{feasible_same}
 
 -- a whole multiple of the denominator, between the bounds
-pub record IsWholeValue (n d low up : ℤ) : Type 0 where
+pub record IsWholeValue (n d least greatest : ℤ) : Type 0 where
   pub k : ℤ
   pub is : n ≡ k *ℤ d
-  pub low : low ≤ℤ k
-  pub high : k ≤ℤ up
+  pub low : least ≤ℤ k
+  pub high : k ≤ℤ greatest
 
 -- what holds of the bound that there is
-bound_is : {P : ℤ → Type 0} (o : Option ℤ) (b : ℤ) → o ≡ Some b → IfSome o P → P b
-bound_is None b e h = absurd cc
-bound_is {P} (Some a) b e h = let s : a ≡ b = cc in subst P s h
+bound_is : (P : ℤ → Type 0) (o : Option ℤ) (b : ℤ) → o ≡ Some b → IfSome o P → P b
+bound_is P None b e h = absurd cc
+bound_is P (Some a) b e h = let s : a ≡ b = cc in subst P s h
 
 pub whole_value : (player : PlayerOf) (x : PointOf) → IsFeasible player x → (v : ℕ) (var : VarOf) → slice_get player.vars v ≡ Some var → IsTrue var.whole → (low up : ℤ) → var.low ≡ Some low → var.up ≡ Some up → IsWholeValue (num_of x v) x.den low up
 whole_value player x f v var found whole low up low_is up_is =
     let w = f.bounds v var found in
     let m = w.whole whole in
-    let above = bound_is {λ b. (b *ℤ x.den) ≤ℤ num_of x v} var.low low low_is w.low in
-    let below = bound_is {λ b. num_of x v ≤ℤ (b *ℤ x.den)} var.up up up_is w.high in
+    let above = bound_is (λ b. (b *ℤ x.den) ≤ℤ num_of x v) var.low low low_is w.low in
+    let below = bound_is (λ b. num_of x v ≤ℤ (b *ℤ x.den)) var.up up up_is w.high in
     record {
       k = m.0;
       is = m.1;
@@ -93,6 +93,6 @@ pub whole_within : (player : PlayerOf) (x : PointOf) → IsFeasible player x →
 whole_within player x f whole v var found low up low_is up_is =
     let n = num_of (whole_of x) v in
     let w = (whole_feasible player x f whole).bounds v var found in
-    let above = bound_is {λ b. (b *ℤ pos 1) ≤ℤ n} var.low low low_is w.low in
-    let below = bound_is {λ b. n ≤ℤ (b *ℤ pos 1)} var.up up up_is w.high in
+    let above = bound_is (λ b. (b *ℤ pos 1) ≤ℤ n) var.low low low_is w.low in
+    let below = bound_is (λ b. n ≤ℤ (b *ℤ pos 1)) var.up up up_is w.high in
     (omega (arith, ints, above), omega (arith, ints, below))
