@@ -13,13 +13,10 @@ use Rattle.zr_base.proofs.Worth.{Each, le_times, le_of_times}
 use Rattle.zr_game.specs.Players.{PlayerOf}
 use Rattle.zr_game.specs.Leaves.{Bound, BoundHolds, slot_of}
 use Rattle.zr_tree.specs.Nodes.{Multipliers}
-use Rattle.zr_tree.specs.Right.{ArePresent, IsRefuting, IsScaled, left_of, right_of}
+use Rattle.zr_tree.specs.Right.{ArePositive, ArePresent, IsRefuting, IsScaled, left_of, right_of}
 use Rattle.zr_tree.proofs.Holding.{SlotHolds}
 
--- each multiplier is at least 1
-abbrev pub ArePositive : Multipliers → Type 0
-ArePositive mult = Each (λ t. (pos 1) ≤ℤ t.1) mult
-
+-- the form of multipliers says that they are positive
 pub positive_if : (low : ℕ) (mult : Multipliers) → AscendWith (λ z. ((pos 1) ≤ℤ z) × IsNarrow z) low (2 ^ 32) mult → ArePositive mult
 positive_if low [] form = tt
 positive_if low (t ∷ ts) form = (form.2.0, positive_if (t.0 + 1) ts form.3)

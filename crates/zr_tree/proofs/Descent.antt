@@ -1,12 +1,10 @@
--- A right tree's row holds at each feasible point.
-use Rattle.std.proofs.Common.{◌≡◌, ◌≢◌, ℕ, ◌<◌, ◌==◌, arith, refl, subst, ℤ, pos, ◌+ℤ◌, ◌*ℤ◌, ◌≤ℤ◌, Bool, true, false, cond, IfSome, Option, Some, None, All, get_or, ◌≤◌, ◌++◌, List, [], ◌∷◌, length, length-append, slice_get, ◌⊎◌, ⊎_elim, inl, inr, int_le}
+-- Each feasible point is inside an end of a tree; so a right tree's row holds there.
+use Rattle.std.proofs.Common.{◌≡◌, ◌≢◌, ℕ, ◌<◌, ◌==◌, arith, refl, subst, ℤ, pos, ◌+ℤ◌, ◌*ℤ◌, ◌≤ℤ◌, Bool, true, false, cond, IfSome, Option, Some, None, All, length, slice_get, ◌⊎◌, ⊎_elim, inl, inr, int_le}
 use Rattle.std.specs.Option.{option_and_then}
 use Rattle.std.proofs.lemmas.Int.{ints}
 use Rattle.std.proofs.lemmas.Bool.{cases_eq}
 use Rattle.std.proofs.lemmas.Bool.Decides.{nat_tests}
-use Rattle.std.proofs.lemmas.List.{get_or_append_left}
-use Rattle.std.proofs.lemmas.List.Elements.{All-head, All-tail}
-use Rattle.std.proofs.lemmas.Option.{get_or_from_slice_get, slice_get_cases}
+use Rattle.std.proofs.lemmas.Option.{get_or_from_slice_get}
 use Rattle.zr_base.specs.Points.{PointOf, num_of}
 use Rattle.zr_base.proofs.Worth.{le_times}
 use Rattle.zr_game.specs.declared.leaf.Side.{Side}
@@ -14,43 +12,13 @@ use Rattle.zr_game.specs.declared.leaf.Side.TheVariants.{VarZero, RowZero}
 use Rattle.zr_game.specs.Players.{PairOf, PlayerOf, VarOf}
 use Rattle.zr_game.specs.Forms.{IsPairForm, IsRowForm}
 use Rattle.zr_game.specs.Feasible.{IsFeasible, PairHolds, slack}
-use Rattle.zr_game.specs.Leaves.{Bound, BoundHolds, LeafOf, above, below, decided, greater, lesser, root_leaf, slots, up_of}
+use Rattle.zr_game.specs.Leaves.{Bound, BoundHolds, LeafOf, above, below, decided, greater, lesser, root_leaf, slots}
 use Rattle.zr_game.proofs.Items.{at_number}
-use Rattle.zr_tree.specs.Nodes.{ChooseNode, ProofNode, SplitNode}
-use Rattle.zr_tree.specs.Trees.{TreeOf, Split, Choose, Proof, Known, Loose, preorder}
-use Rattle.zr_tree.specs.Form.{IsNodeForm}
-use Rattle.zr_tree.specs.Right.{IsRefuting, IsRight, IsScaled}
+use Rattle.zr_tree.specs.Nodes.{NodeOf, SplitNode, ChooseNode, ProofNode, KnownNode, LooseNode}
+use Rattle.zr_tree.specs.Trees.{TreeOf, Split, Choose, Proof, Known, Loose}
+use Rattle.zr_tree.specs.Right.{EndRule, IsRefuted, IsRefuting, IsRight, IsRightBy, IsScaled, ProvesRow, Refutes}
 use Rattle.zr_tree.proofs.Holding.{Inside, SideHolds, all_slots}
-use Rattle.zr_tree.proofs.Combinations.{ArePositive, positive_if, refuting, scaled}
-
--- the multipliers of all proofs are at least 1
-abbrev pub AreProofsPositive : TreeOf → Type 0
-AreProofsPositive (Split v at first second) = AreProofsPositive first × AreProofsPositive second
-AreProofsPositive (Choose p first second) = AreProofsPositive first × AreProofsPositive second
-AreProofsPositive (Proof scale mult) = ArePositive mult
-AreProofsPositive (Known x) = Unit {0}
-AreProofsPositive Loose = Unit {0}
-
-All_front : {A : Type 0} (P : A → Type 0) (xs ys : List A) → All P (xs ++ ys) → All P xs
-All_front P xs ys all k d h =
-    subst P (get_or_append_left xs ys d k h) (all k d (omega (arith, length-append xs ys)))
-
-All_back : {A : Type 0} (P : A → Type 0) (xs ys : List A) → All P (xs ++ ys) → All P ys
-All_back P [] ys all = all
-All_back P (x ∷ xs) ys all = All_back P xs ys (All-tail P x (xs ++ ys) all)
-
--- the nodes' form says so
-pub proofs_positive : (t : TreeOf) → All IsNodeForm (preorder t) → AreProofsPositive t
-proofs_positive (Split v at first second) all =
-    let r = All-tail IsNodeForm (SplitNode v at) (preorder first ++ preorder second) all in
-    (proofs_positive first (All_front IsNodeForm (preorder first) (preorder second) r), proofs_positive second (All_back IsNodeForm (preorder first) (preorder second) r))
-proofs_positive (Choose p first second) all =
-    let r = All-tail IsNodeForm (ChooseNode p) (preorder first ++ preorder second) all in
-    (proofs_positive first (All_front IsNodeForm (preorder first) (preorder second) r), proofs_positive second (All_back IsNodeForm (preorder first) (preorder second) r))
-proofs_positive (Proof scale mult) all =
-    positive_if 0 mult (All-head IsNodeForm (ProofNode scale mult) [] all).2
-proofs_positive (Known x) all = tt
-proofs_positive Loose all = tt
+use Rattle.zr_tree.proofs.Combinations.{refuting, scaled}
 
 le_or_above : (a b : ℤ) → (a ≤ℤ b) ⊎ ((b +ℤ pos 1) ≤ℤ a)
 le_or_above a b = which (int_le a b) refl
@@ -69,6 +37,11 @@ module _ (player : PlayerOf) (x : PointOf) (feasible : IsFeasible player x) wher
     lesser_holds w at None h old new e = subst (λ (z : ℤ). num_of x w ≤ℤ (z *ℤ x.den)) e new
     lesser_holds w at (Some a) h old new e =
         subst (λ (z : ℤ). num_of x w ≤ℤ (z *ℤ x.den)) e (either (λ z. num_of x w ≤ℤ (z *ℤ x.den)) (int_le a at) a at (old a refl) new)
+
+    greater_holds : (w : ℕ) (at : ℤ) (o : Option ℤ) (l : ℤ) → ((a : ℤ) → o ≡ Some a → (a *ℤ x.den) ≤ℤ num_of x w) → (at *ℤ x.den) ≤ℤ num_of x w → greater o at ≡ l → (l *ℤ x.den) ≤ℤ num_of x w
+    greater_holds w at None l old new e = subst (λ (z : ℤ). (z *ℤ x.den) ≤ℤ num_of x w) e new
+    greater_holds w at (Some a) l old new e =
+        subst (λ (z : ℤ). (z *ℤ x.den) ≤ℤ num_of x w) e (either (λ z. (z *ℤ x.den) ≤ℤ num_of x w) (int_le a at) at a new (old a refl))
 
     below_inside : (v : ℕ) (at : ℤ) → num_of x v ≤ℤ (at *ℤ x.den) → Inside player (below leaf v at) x
     below_inside v at new = record {
@@ -91,20 +64,22 @@ module _ (player : PlayerOf) (x : PointOf) (feasible : IsFeasible player x) wher
 
     above_inside : (v : ℕ) (at : ℤ) → ((at +ℤ pos 1) *ℤ x.den) ≤ℤ num_of x v → Inside player (above leaf v at) x
     above_inside v at new = record {
-      lows = λ w q. ⊎_elim (λ (s : v ≡ w). here w q s) (λ (n : v ≢ w). there w q n) (cases_eq v w);
+      lows = λ w l q e. ⊎_elim (λ (s : v ≡ w). here w l q s e) (λ (n : v ≢ w). there w l q n e) (cases_eq v w);
       highs = inside.highs;
       sides = inside.sides;
     }
       where
-        here : (w : ℕ) → w < length player.vars → v ≡ w → (cond (v == w) (greater (leaf.low w) (at +ℤ pos 1)) (leaf.low w) *ℤ x.den) ≤ℤ num_of x w
-        here w q s =
+        here : (w : ℕ) (l : ℤ) → w < length player.vars → v ≡ w → cond (v == w) (Some (greater (leaf.low w) (at +ℤ pos 1))) (leaf.low w) ≡ Some l → (l *ℤ x.den) ≤ℤ num_of x w
+        here w l q s e =
             let t : (v == w) ≡ true = grind (arith, nat_tests) in
-            rw t (either (λ z. (z *ℤ x.den) ≤ℤ num_of x w) (int_le (leaf.low w) (at +ℤ pos 1)) (at +ℤ pos 1) (leaf.low w) (subst (λ (n : ℕ). ((at +ℤ pos 1) *ℤ x.den) ≤ℤ num_of x n) s new) (inside.lows w q))
+            let f = rw t at e in
+            let g : greater (leaf.low w) (at +ℤ pos 1) ≡ l = cc in
+            greater_holds w (at +ℤ pos 1) (leaf.low w) l (λ a k. inside.lows w a q k) (subst (λ (n : ℕ). ((at +ℤ pos 1) *ℤ x.den) ≤ℤ num_of x n) s new) g
 
-        there : (w : ℕ) → w < length player.vars → v ≢ w → (cond (v == w) (greater (leaf.low w) (at +ℤ pos 1)) (leaf.low w) *ℤ x.den) ≤ℤ num_of x w
-        there w q n =
+        there : (w : ℕ) (l : ℤ) → w < length player.vars → v ≢ w → cond (v == w) (Some (greater (leaf.low w) (at +ℤ pos 1))) (leaf.low w) ≡ Some l → (l *ℤ x.den) ≤ℤ num_of x w
+        there w l q n e =
             let t : (v == w) ≡ false = grind (arith, nat_tests) in
-            rw t (inside.lows w q)
+            inside.lows w l q (rw t at e)
 
     decided_inside : (p : ℕ) (pair : PairOf) (side : Side) → slice_get player.pairs p ≡ Some pair → SideHolds x pair side → Inside player (decided leaf p side) x
     decided_inside p pair side found new = record {
@@ -132,44 +107,65 @@ module _ (player : PlayerOf) (x : PointOf) (feasible : IsFeasible player x) wher
       let f = at_number player.pairs p h in
       (f.0, f.1, subst (PairHolds x) (get_or_from_slice_get player.pairs p f.0 f.0 f.1) (feasible.pairs p f.0 h))
 
-  module _ (rows : All (IsRowForm (length player.vars)) player.rows) (pairs : All (IsPairForm (length player.vars)) player.pairs) (bound : Bound) where
-    pub proved : (tree : TreeOf) (leaf : LeafOf) → AreProofsPositive tree → Inside player leaf x → IsRight player bound leaf tree → BoundHolds player x bound
-    proved (Split v at first second) leaf form inside right =
-        let k = whole_value v right.0.0 right.0.1 right.0.2 in
-        ⊎_elim (λ (s : k.0 ≤ℤ at). proved first (below leaf v at) form.0 (below_inside leaf inside v at (rw k.1 (le_times k.0 at x.den feasible.point s))) right.1) (λ (s : (at +ℤ pos 1) ≤ℤ k.0). proved second (above leaf v at) form.1 (above_inside leaf inside v at (rw k.1 (le_times (at +ℤ pos 1) k.0 x.den feasible.point s))) right.2) (le_or_above k.0 at)
-    proved (Choose p first second) leaf form inside right =
-        let hold = pair_holds p right.0.0 in
-        ⊎_elim (λ (s : num_of x hold.0.var ≡ pos 0). proved first (decided leaf p VarZero) form.0 (decided_inside leaf inside p hold.0 VarZero hold.1 s) right.1) (λ (s : slack hold.0 x ≡ pos 0). proved second (decided leaf p RowZero) form.1 (decided_inside leaf inside p hold.0 RowZero hold.1 s) right.2) hold.2.1
-    proved (Proof scale mult) leaf form inside right =
+  -- the point is inside one of the tree's ends
+  pub at_end : (rule : EndRule) (P : Type 0) → ((leaf : LeafOf) (node : NodeOf) → Inside player leaf x → rule leaf node → P) → (tree : TreeOf) (leaf : LeafOf) → Inside player leaf x → IsRightBy rule player leaf tree → P
+  at_end rule P end (Split v at first second) leaf inside right =
+      let k = whole_value v right.0.0 right.0.1 right.0.2 in
+      ⊎_elim (λ (s : k.0 ≤ℤ at). at_end rule P end first (below leaf v at) (below_inside leaf inside v at (rw k.1 (le_times k.0 at x.den feasible.point s))) right.1) (λ (s : (at +ℤ pos 1) ≤ℤ k.0). at_end rule P end second (above leaf v at) (above_inside leaf inside v at (rw k.1 (le_times (at +ℤ pos 1) k.0 x.den feasible.point s))) right.2) (le_or_above k.0 at)
+  at_end rule P end (Choose p first second) leaf inside right =
+      let hold = pair_holds p right.0.0 in
+      ⊎_elim (λ (s : num_of x hold.0.var ≡ pos 0). at_end rule P end first (decided leaf p VarZero) (decided_inside leaf inside p hold.0 VarZero hold.1 s) right.1) (λ (s : slack hold.0 x ≡ pos 0). at_end rule P end second (decided leaf p RowZero) (decided_inside leaf inside p hold.0 RowZero hold.1 s) right.2) hold.2.2
+  at_end rule P end (Proof scale mult) leaf inside right = end leaf (ProofNode scale mult) inside right
+  at_end rule P end (Known y) leaf inside right = end leaf (KnownNode y) inside right
+  at_end rule P end Loose leaf inside right = end leaf LooseNode inside right
+
+  pub root_inside : Inside player (root_leaf player) x
+  root_inside = record {
+    lows = λ v l h e. lower v l (slice_get player.vars v) (λ var g. (feasible.bounds v var g).low) e;
+    highs = λ v u h e. upper v u (slice_get player.vars v) (λ var g. (feasible.bounds v var g).high) e;
+    sides = λ p pair e. tt;
+  }
+    where
+      lower : (v : ℕ) (l : ℤ) (o : Option VarOf) → ((var : VarOf) → o ≡ Some var → IfSome var.low (λ low. (low *ℤ x.den) ≤ℤ num_of x v)) → option_and_then (λ var. var.low) o ≡ Some l → (l *ℤ x.den) ≤ℤ num_of x v
+      lower v l None f e = absurd cc
+      lower v l (Some var) f e = rw e at (f var refl)
+
+      upper : (v : ℕ) (u : ℤ) (o : Option VarOf) → ((var : VarOf) → o ≡ Some var → IfSome var.up (λ up. num_of x v ≤ℤ (up *ℤ x.den))) → option_and_then (λ var. var.up) o ≡ Some u → num_of x v ≤ℤ (u *ℤ x.den)
+      upper v u None f e = absurd cc
+      upper v u (Some var) f e = rw e at (f var refl)
+
+  module _ (rows : All (IsRowForm (length player.vars)) player.rows) (pairs : All (IsPairForm (length player.vars)) player.pairs) where
+    end_proves : (bound : Bound) (leaf : LeafOf) (node : NodeOf) → Inside player leaf x → ProvesRow player bound leaf node → BoundHolds player x bound
+    end_proves bound leaf (SplitNode v at) inside h = absurd h
+    end_proves bound leaf (ChooseNode p) inside h = absurd h
+    end_proves bound leaf (ProofNode scale mult) inside h =
         let all = all_slots player x leaf inside rows pairs feasible in
-        ⊎_elim (λ (s : IsScaled player bound scale (slots player leaf) mult). scaled player x feasible.point (slots player leaf) mult all form right.0 bound scale s) (λ (s : IsRefuting player scale (slots player leaf) mult). absurd (refuting player x feasible.point (slots player leaf) mult all form right.0 scale s)) right.1
-    proved (Known y) leaf form inside right = absurd right
-    proved Loose leaf form inside right = absurd right
+        ⊎_elim (λ (s : IsScaled player bound scale (slots player leaf) mult). scaled player x feasible.point (slots player leaf) mult all h.1 h.0 bound scale s) (λ (s : IsRefuting player scale (slots player leaf) mult). absurd (refuting player x feasible.point (slots player leaf) mult all h.1 h.0 scale s)) h.2
+    end_proves bound leaf (KnownNode y) inside h = absurd h
+    end_proves bound leaf LooseNode inside h = absurd h
 
-    root_inside : Inside player (root_leaf player) x
-    root_inside = record {
-      lows = λ v h. low v h;
-      highs = λ v h q e. high v h e;
-      sides = λ p pair e. tt;
-    }
-      where
-        at_index : (v : ℕ) → v < length player.vars → (var : VarOf) × (slice_get player.vars v ≡ Some var)
-        at_index v h =
-            ⊎_elim (λ (s : (var : VarOf) × (v < length player.vars) × (slice_get player.vars v ≡ Some var) × (get_or player.vars v var ≡ var)). (s.0, s.2)) (λ (n : (length player.vars ≤ v) × (slice_get player.vars v ≡ None)). absurd (omega (arith, n.0))) (slice_get_cases player.vars v).1
+    end_refutes : (leaf : LeafOf) (node : NodeOf) → Inside player leaf x → Refutes player leaf node → ⊥
+    end_refutes leaf (SplitNode v at) inside h = h
+    end_refutes leaf (ChooseNode p) inside h = h
+    end_refutes leaf (ProofNode scale mult) inside h =
+        let all = all_slots player x leaf inside rows pairs feasible in
+        refuting player x feasible.point (slots player leaf) mult all h.1 h.0 scale h.2
+    end_refutes leaf (KnownNode y) inside h = h
+    end_refutes leaf LooseNode inside h = h
 
-        low : (v : ℕ) → v < length player.vars → (pos 0 *ℤ x.den) ≤ℤ num_of x v
-        low v h =
-            let a = at_index v h in
-            let l = (feasible.bounds v a.0 a.1).low in
-            omega (arith, ints, l)
+    pub holds_at_root : (bound : Bound) (tree : TreeOf) → IsRight player bound (root_leaf player) tree → BoundHolds player x bound
+    holds_at_root bound tree right =
+        at_end (ProvesRow player bound) (BoundHolds player x bound) (end_proves bound) tree (root_leaf player) root_inside right
 
-        upper : (v : ℕ) (h : ℤ) (o : Option VarOf) → ((var : VarOf) → o ≡ Some var → IfSome var.up (λ up. num_of x v ≤ℤ (up *ℤ x.den))) → option_and_then (λ var. var.up) o ≡ Some h → num_of x v ≤ℤ (h *ℤ x.den)
-        upper v h None f e = absurd cc
-        upper v h (Some var) f e = rw e at (f var refl)
+    pub none_at_root : (tree : TreeOf) → IsRefuted player (root_leaf player) tree → ⊥
+    none_at_root tree right = at_end (Refutes player) ⊥ end_refutes tree (root_leaf player) root_inside right
 
-        high : (v : ℕ) (h : ℤ) → up_of player.vars v ≡ Some h → num_of x v ≤ℤ (h *ℤ x.den)
-        high v h e =
-            upper v h (slice_get player.vars v) (λ var g. (feasible.bounds v var g).high) e
-
-    pub holds_at_root : (tree : TreeOf) → AreProofsPositive tree → IsRight player bound (root_leaf player) tree → BoundHolds player x bound
-    holds_at_root tree form right = proved tree (root_leaf player) form root_inside right
+-- a tree that refutes its leaf is right for each row
+pub right_if_refuted : (player : PlayerOf) (bound : Bound) (t : TreeOf) (leaf : LeafOf) → IsRefuted player leaf t → IsRight player bound leaf t
+right_if_refuted player bound (Split v at first second) leaf h =
+    (h.0, right_if_refuted player bound first (below leaf v at) h.1, right_if_refuted player bound second (above leaf v at) h.2)
+right_if_refuted player bound (Choose p first second) leaf h =
+    (h.0, right_if_refuted player bound first (decided leaf p VarZero) h.1, right_if_refuted player bound second (decided leaf p RowZero) h.2)
+right_if_refuted player bound (Proof scale mult) leaf h = (h.0, h.1, inr h.2)
+right_if_refuted player bound (Known x) leaf h = absurd h
+right_if_refuted player bound Loose leaf h = absurd h

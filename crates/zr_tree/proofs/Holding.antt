@@ -13,7 +13,7 @@ use Rattle.zr_game.specs.declared.leaf.Side.TheVariants.{Undecided, VarZero, Row
 use Rattle.zr_game.specs.Players.{PairOf, PlayerOf, VarOf}
 use Rattle.zr_game.specs.Forms.{IsPairForm, IsRowForm}
 use Rattle.zr_game.specs.Feasible.{IsFeasible, PairHolds, slack}
-use Rattle.zr_game.specs.Leaves.{Bound, BoundHolds, LeafOf, at_column, high_slot, pair_slots, row_slot, side_slot, slots, var_slots}
+use Rattle.zr_game.specs.Leaves.{Bound, BoundHolds, LeafOf, high_slot, low_slot, pair_slots, row_slot, side_slot, slots, var_slots}
 use Rattle.zr_game.proofs.Columns.{one_column}
 use Rattle.zr_game.proofs.TermColumns.{ascends}
 
@@ -28,7 +28,7 @@ SideHolds x pair RowZero = slack pair x ≡ pos 0
 
 -- the point meets the leaf's bounds and sides
 pub record Inside (player : PlayerOf) (leaf : LeafOf) (x : PointOf) : Type 0 where
-  pub lows : (v : ℕ) → v < length player.vars → (leaf.low v *ℤ x.den) ≤ℤ num_of x v
+  pub lows : (v : ℕ) (l : ℤ) → v < length player.vars → leaf.low v ≡ Some l → (l *ℤ x.den) ≤ℤ num_of x v
   pub highs : (v : ℕ) (h : ℤ) → v < length player.vars → leaf.high v ≡ Some h → num_of x v ≤ℤ (h *ℤ x.den)
   pub sides : (p : ℕ) (pair : PairOf) → slice_get player.pairs p ≡ Some pair → SideHolds x pair (leaf.side p)
 
@@ -62,12 +62,13 @@ module _ (player : PlayerOf) (x : PointOf) where
       (rw e h, row_slots rows (λ k d p. form (suc k) d (omega arith)) (λ k d p. hold (suc k) d (omega arith)))
 
   module _ (leaf : LeafOf) (inside : Inside player leaf x) where
-    low_holds : (v : ℕ) → v < columns → BoundHolds player x (record { coef = at_column v (negsuc 0); le = neg_ℤ (leaf.low v) })
-    low_holds v h =
-        let e = one_column columns v (negsuc 0) (num_of x) h in
-        let l = inside.lows v h in
-        let m = neg-mul_left (leaf.low v) x.den in
-        rw (e, m) (omega (arith, ints, l))
+    low_holds : (v : ℕ) → v < columns → (o : Option ℤ) → leaf.low v ≡ o → SlotHolds player x (low_slot v o)
+    low_holds v h None e = tt
+    low_holds v h (Some low) e =
+        let c = one_column columns v (negsuc 0) (num_of x) h in
+        let l = inside.lows v low h e in
+        let m = neg-mul_left low x.den in
+        rw (c, m) (omega (arith, ints, l))
 
     high_holds : (v : ℕ) → v < columns → (o : Option ℤ) → leaf.high v ≡ o → SlotHolds player x (high_slot v o)
     high_holds v h None e = tt
@@ -79,12 +80,12 @@ module _ (player : PlayerOf) (x : PointOf) where
     pub all_vars : (v : ℕ) (vars : List VarOf) → v + length vars ≡ columns → Each (SlotHolds player x) (var_slots leaf v vars)
     all_vars v [] e = tt
     all_vars v (var ∷ vars) e =
-        (low_holds v (omega arith), (high_holds v (omega arith) (leaf.high v) refl, all_vars (suc v) vars (omega arith)))
+        (low_holds v (omega arith) (leaf.low v) refl, (high_holds v (omega arith) (leaf.high v) refl, all_vars (suc v) vars (omega arith)))
 
     sign_holds : (pair : PairOf) → IsPairForm columns pair → PairHolds x pair → BoundHolds player x (record { coef = λ j. neg_ℤ (coef_at pair.coef j); le = pair.add })
     sign_holds pair form hold =
         let e = minus pair.coef (ascends pair.coef 0 columns form.coef) in
-        let h = hold.0 in
+        let h = hold.1 in
         rw e (omega (arith, ints, h))
 
     side_holds : (pair : PairOf) → IsPairForm columns pair → (side : Side) → SideHolds x pair side → SlotHolds player x (side_slot pair side)

@@ -4,7 +4,7 @@ use Rattle.std.proofs.lemmas.List.{length-map}
 use Rattle.std.proofs.lemmas.Option.{slice_get_within}
 use Rattle.zr_game.specs.declared.player.Var.{Var}
 use Rattle.zr_game.specs.Players.{VarOf, var_of}
-use Rattle.zr_game.specs.Leaves.{up_of}
+use Rattle.zr_game.specs.Leaves.{low_of, up_of}
 use Rattle.zr_game.proofs.Items.{found, one}
 
 -- a list whose items are all the default
@@ -35,6 +35,16 @@ pub no_up : (vars : List Var) (v : ℕ) → length vars ≤ v → None ≡ up_of
 no_up [] v h = refl
 no_up (var ∷ vars) zero h = absurd (omega arith)
 no_up (var ∷ vars) (suc v) h = no_up vars v (omega arith)
+
+pub low_here : (vars : List Var) (v : ℕ) (x : Var) → v < length vars → (get_or vars v x).low ≡ low_of (map var_of vars) v
+low_here [] v x h = absurd (omega arith)
+low_here (var ∷ vars) zero x h = refl
+low_here (var ∷ vars) (suc v) x h = low_here vars v x (omega arith)
+
+pub no_low : (vars : List Var) (v : ℕ) → length vars ≤ v → None ≡ low_of (map var_of vars) v
+no_low [] v h = refl
+no_low (var ∷ vars) zero h = absurd (omega arith)
+no_low (var ∷ vars) (suc v) h = no_low vars v (omega arith)
 
 -- a list that goes by f, and whose default does beyond its end
 pub all_by : {A : Type 0} (xs : List A) (d : A) (f : ℕ → A) (v : ℕ) → (v < length xs → get_or xs v d ≡ f v) → (length xs ≤ v → d ≡ f v) → get_or xs v d ≡ f v

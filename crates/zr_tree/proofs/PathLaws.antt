@@ -12,8 +12,8 @@ use Rattle.zr_tree.specs.declared.path.Frame.TheVariants.{FirstOfSplit, SecondOf
 use Rattle.zr_tree.specs.Paths.{AreFrames, IsFrame, due_leaves, stack, with_high, with_low}
 
 -- the leaf of these lists
-abbrev pub listed : List ℤ → List (Option ℤ) → List Side → LeafOf
-listed low high sides = record { low = λ v. get_or low v (pos 0); high = λ v. get_or high v None; side = λ p. get_or sides p Undecided }
+abbrev pub listed : List (Option ℤ) → List (Option ℤ) → List Side → LeafOf
+listed low high sides = record { low = λ v. get_or low v None; high = λ v. get_or high v None; side = λ p. get_or sides p Undecided }
 
 -- a list with one item set is its function with one value set
 set_at : {A : Type 0} (xs : List A) (v : ℕ) (a d : A) → v < length xs → (w : ℕ) → get_or (set xs v a) w d ≡ cond (v == w) a (get_or xs w d)
@@ -57,14 +57,14 @@ set_twice a b c v w = both (v == w)
     both true = refl
     both false = refl
 
-module _ (low : List ℤ) (high : List (Option ℤ)) (sides : List Side) where
+module _ (low high : List (Option ℤ)) (sides : List Side) where
   pub set_high : (v : ℕ) (a : Option ℤ) → v < length high → listed low (set high v a) sides ≡ with_high (listed low high sides) v a
   set_high v a h =
       same_leaf (listed low (set high v a) sides) (with_high (listed low high sides) v a) (λ w. refl) (set_at high v a None h) (λ p. refl)
 
-  pub set_low : (v : ℕ) (a : ℤ) → v < length low → listed (set low v a) high sides ≡ with_low (listed low high sides) v a
+  pub set_low : (v : ℕ) (a : Option ℤ) → v < length low → listed (set low v a) high sides ≡ with_low (listed low high sides) v a
   set_low v a h =
-      same_leaf (listed (set low v a) high sides) (with_low (listed low high sides) v a) (set_at low v a (pos 0) h) (λ w. refl) (λ p. refl)
+      same_leaf (listed (set low v a) high sides) (with_low (listed low high sides) v a) (set_at low v a None h) (λ w. refl) (λ p. refl)
 
   pub set_side : (p : ℕ) (a : Side) → p < length sides → listed low high (set sides p a) ≡ decided (listed low high sides) p a
   set_side p a h =
@@ -75,9 +75,9 @@ module _ (leaf : LeafOf) where
   below_is v at =
       same_leaf (with_high leaf v (Some (lesser (leaf.high v) at))) (below leaf v at) (λ w. refl) (λ w. same_at (λ n. Some (lesser (leaf.high n) at)) leaf.high v w) (λ p. refl)
 
-  pub above_is : (v : ℕ) (at : ℤ) → with_low leaf v (greater (leaf.low v) (at +ℤ pos 1)) ≡ above leaf v at
+  pub above_is : (v : ℕ) (at : ℤ) → with_low leaf v (Some (greater (leaf.low v) (at +ℤ pos 1))) ≡ above leaf v at
   above_is v at =
-      same_leaf (with_low leaf v (greater (leaf.low v) (at +ℤ pos 1))) (above leaf v at) (λ w. same_at (λ n. greater (leaf.low n) (at +ℤ pos 1)) leaf.low v w) (λ w. refl) (λ p. refl)
+      same_leaf (with_low leaf v (Some (greater (leaf.low v) (at +ℤ pos 1)))) (above leaf v at) (λ w. same_at (λ n. Some (greater (leaf.low n) (at +ℤ pos 1))) leaf.low v w) (λ w. refl) (λ p. refl)
 
   high_back : (v : ℕ) (at : ℤ) → with_high (below leaf v at) v (leaf.high v) ≡ leaf
   high_back v at =
@@ -85,7 +85,7 @@ module _ (leaf : LeafOf) where
 
   low_back : (v : ℕ) (at : ℤ) → with_low (above leaf v at) v (leaf.low v) ≡ leaf
   low_back v at =
-      same_leaf (with_low (above leaf v at) v (leaf.low v)) leaf (set_back leaf.low (above leaf v at).low v (λ w n. apart (greater (leaf.low w) (at +ℤ pos 1)) (leaf.low w) v w n)) (λ w. refl) (λ p. refl)
+      same_leaf (with_low (above leaf v at) v (leaf.low v)) leaf (set_back leaf.low (above leaf v at).low v (λ w n. apart (Some (greater (leaf.low w) (at +ℤ pos 1))) (leaf.low w) v w n)) (λ w. refl) (λ p. refl)
 
   side_twice : (p : ℕ) (a b : Side) → decided (decided leaf p b) p a ≡ decided leaf p a
   side_twice p a b =
@@ -155,7 +155,7 @@ module _ (player : PlayerOf) (frames : List Frame) where
   pub frames_less : (depth : ℕ) → 0 < depth → AreFrames player (stack frames depth) → AreFrames player (stack frames (depth - 1))
   frames_less depth h fs = (nearest_frame depth h fs).1
 
-module _ (low : List ℤ) (high : List (Option ℤ)) (sides : List Side) (frames : List Frame) (depth : ℕ) where
+module _ (low high : List (Option ℤ)) (sides : List Side) (frames : List Frame) (depth : ℕ) where
   abbrev leaf : LeafOf
   leaf = listed low high sides
 
@@ -172,13 +172,13 @@ module _ (low : List ℤ) (high : List (Option ℤ)) (sides : List Side) (frames
       ap (λ (ds : List LeafOf). decided leaf p VarZero ∷ ds) (choice_due leaf (stack frames depth) p free) ∙ sym (ap₂ (λ (x : LeafOf) (ds : List LeafOf). x ∷ ds) l e)
 
   module _ (some : 0 < depth) (places : depth ≤ length frames) where
-    pub split_left : (v : ℕ) (at : ℤ) (old : Option ℤ) (first new : ℤ) → first ≡ get_or low v (pos 0) → new ≡ greater first (at +ℤ pos 1) → v < length low → v < length high → get_or frames (depth - 1) (SecondOfChoice 0) ≡ FirstOfSplit v at old → due_leaves leaf (stack frames depth) ≡ listed (set low v new) (set high v old) sides ∷ due_leaves (listed (set low v new) (set high v old) sides) (stack (set frames (depth - 1) (SecondOfSplit v first)) depth)
+    pub split_left : (v : ℕ) (at : ℤ) (old first : Option ℤ) (new : ℤ) → first ≡ get_or low v None → new ≡ greater first (at +ℤ pos 1) → v < length low → v < length high → get_or frames (depth - 1) (SecondOfChoice 0) ≡ FirstOfSplit v at old → due_leaves leaf (stack frames depth) ≡ listed (set low v (Some new)) (set high v old) sides ∷ due_leaves (listed (set low v (Some new)) (set high v old) sides) (stack (set frames (depth - 1) (SecondOfSplit v first)) depth)
     split_left v at old first new is made h k e =
         let parent = with_high leaf v old in
-        let same = made ∙ ap (λ (z : ℤ). greater z (at +ℤ pos 1)) is in
-        let l = set_low low (set high v old) sides v new h ∙ ap₂ (λ (x : LeafOf) (z : ℤ). with_low x v z) (set_high low high sides v old k) same ∙ above_is parent v at in
+        let same = ap Some (made ∙ ap (λ (z : Option ℤ). greater z (at +ℤ pos 1)) is) in
+        let l = set_low low (set high v old) sides v (Some new) h ∙ ap₂ (λ (x : LeafOf) (z : Option ℤ). with_low x v z) (set_high low high sides v old k) same ∙ above_is parent v at in
         let old_due = ap (due_leaves leaf) (nearest frames depth some ∙ ap (λ (f : Frame). f ∷ stack frames (depth - 1)) e) in
-        let new_due = ap₂ due_leaves l (turned frames depth (SecondOfSplit v first) some places ∙ ap (λ (z : ℤ). SecondOfSplit v z ∷ stack frames (depth - 1)) is) in
+        let new_due = ap₂ due_leaves l (turned frames depth (SecondOfSplit v first) some places ∙ ap (λ (z : Option ℤ). SecondOfSplit v z ∷ stack frames (depth - 1)) is) in
         old_due ∙ ap (λ (ds : List LeafOf). above parent v at ∷ ds) (second_split_due parent (stack frames (depth - 1)) v at) ∙ sym (ap₂ (λ (x : LeafOf) (ds : List LeafOf). x ∷ ds) l new_due)
 
     pub choice_left : (p : ℕ) → p < length sides → get_or frames (depth - 1) (SecondOfChoice 0) ≡ FirstOfChoice p → due_leaves leaf (stack frames depth) ≡ listed low high (set sides p RowZero) ∷ due_leaves (listed low high (set sides p RowZero)) (stack (set frames (depth - 1) (SecondOfChoice p)) depth)

@@ -11,7 +11,7 @@ use Rattle.zr_game.specs.Players.{PlayerOf}
 use Rattle.zr_game.specs.Leaves.{Bound, LeafOf, slots}
 use Rattle.zr_tree.specs.Nodes.{Multipliers}
 use Rattle.zr_tree.specs.Listed.{bound_of}
-use Rattle.zr_tree.specs.Right.{ArePresent, IsProof, IsRefuting, IsScaled, left_of, right_of, slot_coef, slot_le}
+use Rattle.zr_tree.specs.Right.{ArePositive, ArePresent, IsProof, IsRefuting, IsScaled, left_of, right_of, slot_coef, slot_le}
 use Rattle.zr_tree.specs.Steps.{IsWideProof, left_steps, right_steps}
 use Rattle.zr_tree.specs.Combining.{HasWideStep, IsCombined}
 use Rattle.zr_tree.specs.Visits.{ProofTells}
@@ -84,7 +84,7 @@ module _ (player : PlayerOf) (coef : List ℤ) (le : ℤ) (leaf : LeafOf) (scale
     right_tells w e =
         (present, inr (inr (inr (wide_err (cross_of (scale, le) (pos 0, pos 0)) w e))))
 
-    module _ (sums : List ℤ) (right : ℤ) (combined : IsCombined rows mult sums right) (places : length sums ≡ length player.vars) where
+    module _ (sums : List ℤ) (right : ℤ) (combined : IsCombined rows mult sums right) (places : length sums ≡ length player.vars) (positive : ArePositive mult) where
       left_sum : (j : ℕ) → j < length player.vars → left_of rows mult j ≡ get_or sums j (pos 0)
       left_sum j h =
           let e = sum_steps_exact (pos 0) (get_or sums j (pos 0)) (map (product_of (λ k. slot_coef rows k j)) mult) (combined.left j (omega (arith, h, places))) in
@@ -110,8 +110,8 @@ module _ (player : PlayerOf) (coef : List ℤ) (le : ℤ) (leaf : LeafOf) (scale
           there : IsTrue a × IsTrue b → IsProof player bound leaf scale mult
           there h =
               let l = left.1.0 h.0 in
-              (present, ⊎_elim (λ (s : (pos 1 ≤ℤ scale) × (right ≤ℤ (scale *ℤ le))). inl (record { positive = s.0; left = λ j q. left_sum j q ∙ l j (omega (arith, q, same)); right = rw right_sum s.1 })) (λ (s : (scale ≡ pos 0) × (right <ℤ (pos 0))). inr (record { none = s.0; left = λ j q. left_sum j q ∙ l j (omega (arith, q, same)) ∙ zero_times (get_or coef j (pos 0)) s.0; right = rw right_sum s.1 })) (below.1.0 h.1))
+              (present, positive, ⊎_elim (λ (s : (pos 1 ≤ℤ scale) × (right ≤ℤ (scale *ℤ le))). inl (record { positive = s.0; left = λ j q. left_sum j q ∙ l j (omega (arith, q, same)); right = rw right_sum s.1 })) (λ (s : (scale ≡ pos 0) × (right <ℤ (pos 0))). inr (record { none = s.0; left = λ j q. left_sum j q ∙ l j (omega (arith, q, same)) ∙ zero_times (get_or coef j (pos 0)) s.0; right = rw right_sum s.1 })) (below.1.0 h.1))
 
           back : IsProof player bound leaf scale mult → IsTrue (a && b)
           back p =
-              ⊎_elim (λ (s : IsScaled player bound scale rows mult). true_both a b (left.1.1 (λ j q. let r : j < length player.vars = omega (arith, q, same) in sym (left_sum j r) ∙ s.left j r)) (below.1.1 (inl (s.positive, rw right_sum at s.right)))) (λ (s : IsRefuting player scale rows mult). true_both a b (left.1.1 (λ j q. let r : j < length player.vars = omega (arith, q, same) in sym (left_sum j r) ∙ s.left j r ∙ sym (zero_times (get_or coef j (pos 0)) s.none))) (below.1.1 (inr (s.none, rw right_sum at s.right)))) p.1
+              ⊎_elim (λ (s : IsScaled player bound scale rows mult). true_both a b (left.1.1 (λ j q. let r : j < length player.vars = omega (arith, q, same) in sym (left_sum j r) ∙ s.left j r)) (below.1.1 (inl (s.positive, rw right_sum at s.right)))) (λ (s : IsRefuting player scale rows mult). true_both a b (left.1.1 (λ j q. let r : j < length player.vars = omega (arith, q, same) in sym (left_sum j r) ∙ s.left j r ∙ sym (zero_times (get_or coef j (pos 0)) s.none))) (below.1.1 (inr (s.none, rw right_sum at s.right)))) p.2

@@ -41,9 +41,9 @@ module _ (player : Player) (leaf : LeafOf) where
     rows_before : (q : ℕ) → place ≡ q → slot ≡ length (player_of player).rows + q
     rows_before q e = omega (arith, length-map player.rows.items row_of, past, e, rows_are)
 
-    pub var_read : (low : ℤ) (high : Option ℤ) → low ≡ leaf.low (place / 2) → high ≡ leaf.high (place / 2) → place / 2 < m → cond (place % 2 == 1) (high_slot (place / 2) high) (low_slot (place / 2) low) ≡ slot_of (slots (player_of player) leaf) slot
+    pub var_read : (low high : Option ℤ) → low ≡ leaf.low (place / 2) → high ≡ leaf.high (place / 2) → place / 2 < m → cond (place % 2 == 1) (high_slot (place / 2) high) (low_slot (place / 2) low) ≡ slot_of (slots (player_of player) leaf) slot
     var_read low high l k h =
-        ap₂ (λ (a : Option ℤ) (b : ℤ). cond (place % 2 == 1) (high_slot (place / 2) a) (low_slot (place / 2) b)) k l ∙ sym (at_var (player_of player) leaf slot (place / 2) (place % 2 == 1) (rows_before (place / 2 + place / 2 + second_of (place % 2 == 1)) (halves place)) (omega (arith, h, vars_are, length-map player.vars.items var_of)))
+        ap₂ (λ (a b : Option ℤ). cond (place % 2 == 1) (high_slot (place / 2) a) (low_slot (place / 2) b)) k l ∙ sym (at_var (player_of player) leaf slot (place / 2) (place % 2 == 1) (rows_before (place / 2 + place / 2 + second_of (place % 2 == 1)) (halves place)) (omega (arith, h, vars_are, length-map player.vars.items var_of)))
 
     abbrev pair : ℕ
     pair = place / 2 - m

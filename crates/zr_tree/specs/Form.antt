@@ -1,5 +1,5 @@
 -- What every list of nodes keeps: it is one whole tree, and its numbers are within the limits.
-use Rattle.std.specs.Prelude.{◌≡◌, ℕ, zero, suc, ◌+◌, ◌^◌, ◌<◌, pos, ◌≤ℤ◌, Bool, true, false, List, [], ◌∷◌, length}
+use Rattle.std.specs.Prelude.{◌≡◌, ℕ, zero, suc, ◌+◌, ◌^◌, ◌<◌, ℤ, pos, negsuc, ◌≤ℤ◌, Bool, true, false, List, [], ◌∷◌, length}
 use Rattle.std.specs.List.{All}
 use Rattle.zr_base.specs.Steps.{IsNarrow}
 use Rattle.zr_base.specs.Terms.{AscendWith}
@@ -24,8 +24,15 @@ is_forest (suc due) (node ∷ nodes) = is_forest (child_count node + due) nodes
 abbrev pub AreMultipliers : Multipliers → Type 0
 AreMultipliers mult = AscendWith (λ z. ((pos 1) ≤ℤ z) × IsNarrow z) 0 (2 ^ 32) mult
 
+-- a variable is split at a number from -2^62 to 2^62 - 1
+abbrev pub least_split : ℤ
+least_split = negsuc 4611686018427387903
+
+abbrev pub greatest_split : ℤ
+greatest_split = pos 4611686018427387903
+
 abbrev pub IsNodeForm : NodeOf → Type 0
-IsNodeForm (SplitNode v at) = ((pos 0) ≤ℤ at) × (at ≤ℤ pos 4611686018427387903)
+IsNodeForm (SplitNode v at) = (least_split ≤ℤ at) × (at ≤ℤ greatest_split)
 IsNodeForm (ChooseNode p) = Unit {0}
 IsNodeForm (ProofNode scale mult) = ((pos 0) ≤ℤ scale) × IsNarrow scale × AreMultipliers mult
 IsNodeForm (KnownNode x) = Unit {0}

@@ -13,7 +13,7 @@ abbrev pub with_high : LeafOf → ℕ → Option ℤ → LeafOf
 with_high leaf v high = record leaf { high = λ w. if v == w then high else leaf.high w }
 
 -- with this low bound of variable v
-abbrev pub with_low : LeafOf → ℕ → ℤ → LeafOf
+abbrev pub with_low : LeafOf → ℕ → Option ℤ → LeafOf
 with_low leaf v low = record leaf { low = λ w. if v == w then low else leaf.low w }
 
 -- the first n frames, the last of them first

@@ -1,16 +1,21 @@
--- When a tree proves a row, by cases.
-use Rattle.std.specs.Prelude.{◌≡◌, ℕ, ◌<◌, ℤ, pos, ◌+ℤ◌, ◌*ℤ◌, ◌<ℤ◌, ◌≤ℤ◌, true, Option, Some, List, [], ◌∷◌, length, slice_get, IsSome, ◌⊎◌}
+-- When a tree proves a row, or that there is no point, by cases.
+use Rattle.std.specs.Prelude.{◌≡◌, ℕ, ◌<◌, ℤ, pos, ◌+ℤ◌, ◌*ℤ◌, ◌<ℤ◌, ◌≤ℤ◌, Option, List, [], ◌∷◌, length, IsSome, ◌⊎◌}
 use Rattle.std.specs.Option.{option_map_or}
-use Rattle.zr_game.specs.Players.{PlayerOf, VarOf}
-use Rattle.zr_game.specs.Leaves.{Bound, LeafOf, above, below, decided, slot_of, slots}
-use Rattle.zr_game.specs.declared.leaf.Side.TheVariants.{Undecided, VarZero, RowZero}
-use Rattle.zr_tree.specs.Nodes.{Multipliers}
+use Rattle.zr_game.specs.Players.{PlayerOf}
+use Rattle.zr_game.specs.Leaves.{Bound, IsOpenPair, IsWholeVar, LeafOf, above, below, decided, slot_of, slots}
+use Rattle.zr_game.specs.declared.leaf.Side.TheVariants.{VarZero, RowZero}
+use Rattle.zr_tree.specs.Nodes.{Multipliers, NodeOf, SplitNode, ChooseNode, ProofNode, KnownNode, LooseNode}
 use Rattle.zr_tree.specs.Trees.{TreeOf, Split, Choose, Proof, Known, Loose}
 
 -- the slots that are multiplied are present
 abbrev pub ArePresent : List (Option Bound) → Multipliers → Type 0
 ArePresent rows [] = Unit {0}
 ArePresent rows (t ∷ ts) = IsSome (slot_of rows t.0) × ArePresent rows ts
+
+-- each multiplier is at least 1
+abbrev pub ArePositive : Multipliers → Type 0
+ArePositive [] = Unit {0}
+ArePositive (t ∷ ts) = ((pos 1) ≤ℤ t.1) × ArePositive ts
 
 -- the number of slot k at column j, and its right side
 abbrev pub slot_coef : List (Option Bound) → ℕ → ℕ → ℤ
@@ -40,26 +45,54 @@ pub record IsRefuting (player : PlayerOf) (scale : ℤ) (rows : List (Option Bou
   pub left : (j : ℕ) → j < length player.vars → left_of rows mult j ≡ pos 0
   pub right : right_of rows mult <ℤ (pos 0)
 
--- the player has a whole variable v
-abbrev pub IsWholeVar : PlayerOf → ℕ → Type 0
-IsWholeVar player v = (var : VarOf) × (slice_get player.vars v ≡ Some var) × (var.whole ≡ true)
-
--- the player has a pair p, which is undecided at the leaf
-abbrev pub IsOpenPair : PlayerOf → LeafOf → ℕ → Type 0
-IsOpenPair player leaf p = (p < length player.pairs) × (leaf.side p ≡ Undecided)
-
 -- the leaf's slots, multiplied, prove the row or refute the leaf
 abbrev pub IsProof : PlayerOf → Bound → LeafOf → ℤ → Multipliers → Type 0
 IsProof player bound leaf scale mult =
     ArePresent (slots player leaf) mult
+    × ArePositive mult
     × (IsScaled player bound scale (slots player leaf) mult ⊎ IsRefuting player scale (slots player leaf) mult)
+
+-- the leaf's slots, multiplied, refute the leaf
+abbrev pub IsRefutation : PlayerOf → LeafOf → ℤ → Multipliers → Type 0
+IsRefutation player leaf scale mult =
+    ArePresent (slots player leaf) mult × ArePositive mult × IsRefuting player scale (slots player leaf) mult
+
+-- what is asked of a node without children, which is an end of the tree, at its leaf
+abbrev pub EndRule : Type 1
+EndRule = LeafOf → NodeOf → Type 0
+
+-- an end proves the row
+abbrev pub ProvesRow : PlayerOf → Bound → EndRule
+ProvesRow player bound leaf (SplitNode v at) = ⊥
+ProvesRow player bound leaf (ChooseNode p) = ⊥
+ProvesRow player bound leaf (ProofNode scale mult) = IsProof player bound leaf scale mult
+ProvesRow player bound leaf (KnownNode x) = ⊥
+ProvesRow player bound leaf LooseNode = ⊥
+
+-- an end shows that its leaf has no point
+abbrev pub Refutes : PlayerOf → EndRule
+Refutes player leaf (SplitNode v at) = ⊥
+Refutes player leaf (ChooseNode p) = ⊥
+Refutes player leaf (ProofNode scale mult) = IsRefutation player leaf scale mult
+Refutes player leaf (KnownNode x) = ⊥
+Refutes player leaf LooseNode = ⊥
+
+-- whole variables are split and open pairs chosen, and each end keeps the rule
+abbrev pub IsRightBy : EndRule → PlayerOf → LeafOf → TreeOf → Type 0
+IsRightBy rule player leaf (Split v at first second) =
+    IsWholeVar player v × IsRightBy rule player (below leaf v at) first × IsRightBy rule player (above leaf v at) second
+IsRightBy rule player leaf (Choose p first second) =
+    IsOpenPair player leaf p
+    × IsRightBy rule player (decided leaf p VarZero) first
+    × IsRightBy rule player (decided leaf p RowZero) second
+IsRightBy rule player leaf (Proof scale mult) = rule leaf (ProofNode scale mult)
+IsRightBy rule player leaf (Known x) = rule leaf (KnownNode x)
+IsRightBy rule player leaf Loose = rule leaf LooseNode
 
 -- the tree proves the row at the leaf
 abbrev pub IsRight : PlayerOf → Bound → LeafOf → TreeOf → Type 0
-IsRight player bound leaf (Split v at first second) =
-    IsWholeVar player v × IsRight player bound (below leaf v at) first × IsRight player bound (above leaf v at) second
-IsRight player bound leaf (Choose p first second) =
-    IsOpenPair player leaf p × IsRight player bound (decided leaf p VarZero) first × IsRight player bound (decided leaf p RowZero) second
-IsRight player bound leaf (Proof scale mult) = IsProof player bound leaf scale mult
-IsRight player bound leaf (Known x) = ⊥
-IsRight player bound leaf Loose = ⊥
+IsRight player bound leaf tree = IsRightBy (ProvesRow player bound) player leaf tree
+
+-- the tree shows that the leaf has no point
+abbrev pub IsRefuted : PlayerOf → LeafOf → TreeOf → Type 0
+IsRefuted player leaf tree = IsRightBy (Refutes player) player leaf tree

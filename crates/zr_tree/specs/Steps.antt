@@ -4,11 +4,11 @@ use Rattle.zr_base.specs.declared.step.Wide.{Wide}
 use Rattle.zr_base.specs.Steps.{cross_of}
 use Rattle.zr_base.specs.Sums.{sum_steps}
 use Rattle.zr_game.specs.Players.{PlayerOf}
-use Rattle.zr_game.specs.Leaves.{Bound, LeafOf, above, below, decided, slots}
+use Rattle.zr_game.specs.Leaves.{Bound, IsOpenPair, IsWholeVar, LeafOf, above, below, decided, slots}
 use Rattle.zr_game.specs.declared.leaf.Side.TheVariants.{VarZero, RowZero}
-use Rattle.zr_tree.specs.Nodes.{Multipliers}
+use Rattle.zr_tree.specs.Nodes.{Multipliers, NodeOf, SplitNode, ChooseNode, ProofNode, KnownNode, LooseNode}
 use Rattle.zr_tree.specs.Trees.{TreeOf, Split, Choose, Proof, Known, Loose, size}
-use Rattle.zr_tree.specs.Right.{ArePresent, IsOpenPair, IsProof, IsWholeVar, slot_coef, slot_le}
+use Rattle.zr_tree.specs.Right.{ArePresent, EndRule, IsRightBy, ProvesRow, slot_coef, slot_le}
 use Rattle.zr_tree.specs.declared.fault.Fault.{Fault}
 use Rattle.zr_tree.specs.declared.fault.Fault.TheVariants.{Bad, Wide as TooWide}
 
@@ -32,42 +32,64 @@ abbrev pub IsWideProof : PlayerOf → Bound → LeafOf → ℤ → Multipliers �
 IsWideProof player bound leaf scale mult =
     ArePresent (slots player leaf) mult × HasWideSum player bound scale (slots player leaf) mult
 
--- the tree is right for the row at the leaf, and no step of its proofs is too wide
-abbrev pub Passes : PlayerOf → Bound → LeafOf → TreeOf → Type 0
-Passes player bound leaf (Split v at first second) =
-    IsWholeVar player v × Passes player bound (below leaf v at) first × Passes player bound (above leaf v at) second
-Passes player bound leaf (Choose p first second) =
-    IsOpenPair player leaf p × Passes player bound (decided leaf p VarZero) first × Passes player bound (decided leaf p RowZero) second
-Passes player bound leaf (Proof scale mult) =
-    IsProof player bound leaf scale mult × (IsWideProof player bound leaf scale mult → ⊥)
-Passes player bound leaf (Known x) = ⊥
-Passes player bound leaf Loose = ⊥
+-- a step of the end's sums for the row is too wide
+abbrev pub IsWideForRow : PlayerOf → Bound → EndRule
+IsWideForRow player bound leaf (SplitNode v at) = ⊥
+IsWideForRow player bound leaf (ChooseNode p) = ⊥
+IsWideForRow player bound leaf (ProofNode scale mult) = IsWideProof player bound leaf scale mult
+IsWideForRow player bound leaf (KnownNode x) = ⊥
+IsWideForRow player bound leaf LooseNode = ⊥
+
+-- the end is right, and no step of its sums is too wide
+abbrev pub EndPasses : EndRule → EndRule → EndRule
+EndPasses right wide leaf node = right leaf node × (wide leaf node → ⊥)
+
+-- the end, which has the number k, is refused: a step that is too wide stands before what is wrong
+abbrev pub EndRefused : EndRule → EndRule → ℕ → LeafOf → NodeOf → Fault → Type 0
+EndRefused right wide k leaf node fault =
+    (wide leaf node × (fault ≡ TooWide k))
+    ⊎ ((wide leaf node → ⊥) × (right leaf node → ⊥) × (fault ≡ Bad k))
 
 -- where the node itself is wrong the fault is Bad at its number k; else the fault is that of the first child, or, where
 -- that passes, of the second
-abbrev pub IsRefusedAt : PlayerOf → Bound → ℕ → LeafOf → TreeOf → Fault → Type 0
-IsRefusedAt player bound k leaf (Split v at first second) fault =
+abbrev pub IsRefusedBy : EndRule → EndRule → PlayerOf → ℕ → LeafOf → TreeOf → Fault → Type 0
+IsRefusedBy right wide player k leaf (Split v at first second) fault =
     ((IsWholeVar player v → ⊥) × (fault ≡ Bad k))
-    ⊎ (IsWholeVar player v × IsRefusedAt player bound (k + 1) (below leaf v at) first fault)
-    ⊎ (IsWholeVar player v × Passes player bound (below leaf v at) first
-    × IsRefusedAt player bound (k + 1 + size first) (above leaf v at) second fault)
-IsRefusedAt player bound k leaf (Choose p first second) fault =
+    ⊎ (IsWholeVar player v × IsRefusedBy right wide player (k + 1) (below leaf v at) first fault)
+    ⊎ (IsWholeVar player v
+    × IsRightBy (EndPasses right wide) player (below leaf v at) first
+    × IsRefusedBy right wide player (k + 1 + size first) (above leaf v at) second fault)
+IsRefusedBy right wide player k leaf (Choose p first second) fault =
     ((IsOpenPair player leaf p → ⊥) × (fault ≡ Bad k))
-    ⊎ (IsOpenPair player leaf p × IsRefusedAt player bound (k + 1) (decided leaf p VarZero) first fault)
-    ⊎ (IsOpenPair player leaf p × Passes player bound (decided leaf p VarZero) first
-    × IsRefusedAt player bound (k + 1 + size first) (decided leaf p RowZero) second fault)
-IsRefusedAt player bound k leaf (Proof scale mult) fault =
-    (IsWideProof player bound leaf scale mult × (fault ≡ TooWide k))
-    ⊎ ((IsWideProof player bound leaf scale mult → ⊥) × (IsProof player bound leaf scale mult → ⊥) × (fault ≡ Bad k))
-IsRefusedAt player bound k leaf (Known x) fault = fault ≡ Bad k
-IsRefusedAt player bound k leaf Loose fault = fault ≡ Bad k
+    ⊎ (IsOpenPair player leaf p × IsRefusedBy right wide player (k + 1) (decided leaf p VarZero) first fault)
+    ⊎ (IsOpenPair player leaf p
+    × IsRightBy (EndPasses right wide) player (decided leaf p VarZero) first
+    × IsRefusedBy right wide player (k + 1 + size first) (decided leaf p RowZero) second fault)
+IsRefusedBy right wide player k leaf (Proof scale mult) fault =
+    EndRefused right wide k leaf (ProofNode scale mult) fault
+IsRefusedBy right wide player k leaf (Known x) fault = EndRefused right wide k leaf (KnownNode x) fault
+IsRefusedBy right wide player k leaf Loose fault = EndRefused right wide k leaf LooseNode fault
+
+-- a step at some end is too wide
+abbrev pub HasWideEnd : EndRule → LeafOf → TreeOf → Type 0
+HasWideEnd wide leaf (Split v at first second) =
+    HasWideEnd wide (below leaf v at) first ⊎ HasWideEnd wide (above leaf v at) second
+HasWideEnd wide leaf (Choose p first second) =
+    HasWideEnd wide (decided leaf p VarZero) first ⊎ HasWideEnd wide (decided leaf p RowZero) second
+HasWideEnd wide leaf (Proof scale mult) = wide leaf (ProofNode scale mult)
+HasWideEnd wide leaf (Known x) = wide leaf (KnownNode x)
+HasWideEnd wide leaf Loose = wide leaf LooseNode
+
+-- the tree is right for the row at the leaf, and no step of its proofs is too wide
+abbrev pub Passes : PlayerOf → Bound → LeafOf → TreeOf → Type 0
+Passes player bound leaf tree =
+    IsRightBy (EndPasses (ProvesRow player bound) (IsWideForRow player bound)) player leaf tree
+
+-- the tree is refused for the row, with this fault; k is the number of its root
+abbrev pub IsRefusedAt : PlayerOf → Bound → ℕ → LeafOf → TreeOf → Fault → Type 0
+IsRefusedAt player bound k leaf tree fault =
+    IsRefusedBy (ProvesRow player bound) (IsWideForRow player bound) player k leaf tree fault
 
 -- a step of some leaf's proof is too wide
 abbrev pub HasWideProof : PlayerOf → Bound → LeafOf → TreeOf → Type 0
-HasWideProof player bound leaf (Split v at first second) =
-    HasWideProof player bound (below leaf v at) first ⊎ HasWideProof player bound (above leaf v at) second
-HasWideProof player bound leaf (Choose p first second) =
-    HasWideProof player bound (decided leaf p VarZero) first ⊎ HasWideProof player bound (decided leaf p RowZero) second
-HasWideProof player bound leaf (Proof scale mult) = IsWideProof player bound leaf scale mult
-HasWideProof player bound leaf (Known x) = ⊥
-HasWideProof player bound leaf Loose = ⊥
+HasWideProof player bound leaf tree = HasWideEnd (IsWideForRow player bound) leaf tree

@@ -1,20 +1,20 @@
-ghost use Rattle.std.specs.Prelude.{◌≡◌, ◌<◌, ◌≤◌, ◌↔◌, ◌^◌, pos, ◌≤ℤ◌, [], ◌∷◌, IsTrue, IfErr, OnOk, length, map};
+ghost use Rattle.std.specs.Prelude.{◌≡◌, ◌<◌, ◌≤◌, ◌↔◌, ◌^◌, pos, ◌≤ℤ◌, [], ◌∷◌, IsOk, IsTrue, IfErr, OnOk, length, map};
 ghost use Rattle.std.specs.List.{All};
 ghost use Rattle.zr_base.specs.Points.{PointOf};
 ghost use Rattle.zr_game.specs.Players.{PlayerOf, player_of};
 ghost use Rattle.zr_game.specs.Games.{game_of};
 ghost use Rattle.zr_game.specs.Forms.{IsPlayer};
 ghost use Rattle.zr_game.specs.Feasible.{IsFeasible};
-ghost use Rattle.zr_game.specs.Leaves.{BoundHolds, above, below, decided, leaf_of, root_leaf};
-ghost use Rattle.zr_tree.specs.Nodes.{node_of};
-ghost use Rattle.zr_tree.specs.Form.{IsNodeForm};
+ghost use Rattle.zr_game.specs.Leaves.{BoundHolds, IsOpenPair, IsWholeVar, above, below, decided, leaf_of, root_leaf};
+ghost use Rattle.zr_tree.specs.Nodes.{ProofNode, node_of};
+ghost use Rattle.zr_tree.specs.Form.{IsNodeForm, greatest_split};
 ghost use Rattle.zr_tree.specs.Trees.{TreeOf, preorder};
 ghost use Rattle.zr_tree.specs.Listed.{IsTreeOf, bound_of};
-ghost use Rattle.zr_tree.specs.Right.{IsOpenPair, IsWholeVar};
-ghost use Rattle.zr_tree.specs.Steps.{IsRefusedAt, Passes};
+ghost use Rattle.zr_tree.specs.Right.{ArePositive, IsRight};
+ghost use Rattle.zr_tree.specs.Steps.{HasWideProof, IsRefusedAt, Passes};
 ghost use Rattle.zr_tree.specs.Scratches.{most_pairs, most_vars};
 ghost use Rattle.zr_tree.specs.Paths.{Entered, HasPlaces, IsPathOf, IsSameSize};
-ghost use Rattle.zr_tree.specs.Visits.{HasForms, NodePasses, NodeRefused, ProofPasses, ProofRefused, children};
+ghost use Rattle.zr_tree.specs.Visits.{HasForms, NodePassesRow, NodeRefusesRow, children};
 
 use crate::fault::Fault;
 use crate::node::Node;
@@ -52,6 +52,7 @@ pub fn bounds(
     requires pairs { most_pairs (game_of game.now) ≤ scratch.old.pairs }
     ensures ok { OnOk result ((player : PlayerOf) → IsPlayer (game_of game.now) i player → (t : TreeOf) → IsTreeOf tree.now t → Passes player (bound_of coef.now le) (root_leaf player) t) }
     ensures err { IfErr result (λ fault. (player : PlayerOf) → IsPlayer (game_of game.now) i player → (t : TreeOf) → IsTreeOf tree.now t → IsRefusedAt player (bound_of coef.now le) 0 (root_leaf player) t fault) }
+    ensures exact { (player : PlayerOf) → IsPlayer (game_of game.now) i player → (t : TreeOf) → IsTreeOf tree.now t → IsOk result ↔ (IsRight player (bound_of coef.now le) (root_leaf player) t × (HasWideProof player (bound_of coef.now le) (root_leaf player) t → ⊥)) }
     ensures sound { OnOk result ((player : PlayerOf) → IsPlayer (game_of game.now) i player → (x : PointOf) → IsFeasible player x → BoundHolds player x (bound_of coef.now le)) }
     ensures places { scratch.new ≡ scratch.old }
 {
@@ -101,9 +102,9 @@ fn visit(
     requires columns { length (player_of player.now).vars ≤ length room.old.sums.items }
     requires place { room.old.path.depth < length room.old.path.frames.items }
     requires node { IsNodeForm (node_of node.now) }
-    ensures ok { OnOk result (NodePasses (player_of player.now) (bound_of coef.now le) (leaf_of room.old.path.leaf) (node_of node.now)) }
+    ensures ok { OnOk result (NodePassesRow (player_of player.now) (bound_of coef.now le) (leaf_of room.old.path.leaf) (node_of node.now)) }
     ensures entered { OnOk result (Entered (player_of player.now) (children (leaf_of room.old.path.leaf) (node_of node.now)) room.old.path room.new.path) }
-    ensures err { IfErr result (NodeRefused (player_of player.now) (bound_of coef.now le) k (leaf_of room.old.path.leaf) (node_of node.now)) }
+    ensures err { IfErr result (NodeRefusesRow (player_of player.now) (bound_of coef.now le) k (leaf_of room.old.path.leaf) (node_of node.now)) }
     ensures size { IsSameSize room.old.path room.new.path }
     ensures sums { length room.new.sums.items ≡ length room.old.sums.items }
 {
@@ -117,7 +118,7 @@ fn visit(
 }
 
 fn visit_split(player: &Player, var: u32, at: i64, k: u32, path: &mut Path) -> Result<(), Fault>
-    requires at { at ≤ℤ pos 4611686018427387903 }
+    requires at { at ≤ℤ greatest_split }
     requires path { IsPathOf (player_of player.now) path.old }
     requires place { path.old.depth < length path.old.frames.items }
     ensures ok { OnOk result (IsWholeVar (player_of player.now) var) }
@@ -160,9 +161,10 @@ fn visit_proof(
     requires path { IsPathOf (player_of player.now) room.old.path }
     requires coef { length coef.now ≡ length (player_of player.now).vars }
     requires columns { length (player_of player.now).vars ≤ length room.old.sums.items }
-    ensures ok { OnOk result (ProofPasses (player_of player.now) (bound_of coef.now le) (leaf_of room.old.path.leaf) scale mult.now) }
+    requires positive { ArePositive mult.now }
+    ensures ok { OnOk result (NodePassesRow (player_of player.now) (bound_of coef.now le) (leaf_of room.old.path.leaf) (ProofNode scale mult.now)) }
     ensures entered { OnOk result (Entered (player_of player.now) [] room.old.path room.new.path) }
-    ensures err { IfErr result (ProofRefused (player_of player.now) (bound_of coef.now le) k (leaf_of room.old.path.leaf) scale mult.now) }
+    ensures err { IfErr result (NodeRefusesRow (player_of player.now) (bound_of coef.now le) k (leaf_of room.old.path.leaf) (ProofNode scale mult.now)) }
     ensures size { IsSameSize room.old.path room.new.path }
     ensures sums { length room.new.sums.items ≡ length room.old.sums.items }
 {

@@ -2,12 +2,14 @@ ghost use Rattle.std.specs.Prelude.{◌≡◌, ◌↔◌, ◌+◌, ◌^◌, ◌<
 ghost use Rattle.std.specs.List.{All};
 ghost use Rattle.zr_base.specs.Steps.{IsNarrow};
 ghost use Rattle.zr_tree.specs.Nodes.{node_of};
-ghost use Rattle.zr_tree.specs.Form.{AreMultipliers, IsNodeForm, IsTree, child_count, is_forest};
+ghost use Rattle.zr_tree.specs.Form.{AreMultipliers, IsNodeForm, IsTree, child_count, greatest_split, is_forest, least_split};
 
 use crate::node::Node;
 
-/// The greatest number that a variable is split at.
-const AT_LIMIT: i64 = 4_611_686_018_427_387_903;
+/// The least number that a variable is split at, and the greatest.
+const LEAST_SPLIT: i64 = -4_611_686_018_427_387_904;
+
+const GREATEST_SPLIT: i64 = 4_611_686_018_427_387_903;
 
 /// There are fewer nodes than this in a tree, and fewer slots at a leaf.
 const COUNT_LIMIT: usize = 1 << 32;
@@ -64,9 +66,9 @@ fn is_form(node: &Node) -> bool
 }
 
 fn is_number_to_split_at(at: i64) -> bool
-    ensures { IsTrue result ↔ ((pos 0 ≤ℤ at) × (at ≤ℤ pos 4611686018427387903)) }
+    ensures { IsTrue result ↔ ((least_split ≤ℤ at) × (at ≤ℤ greatest_split)) }
 {
-    0 <= at && at <= AT_LIMIT
+    LEAST_SPLIT <= at && at <= GREATEST_SPLIT
 }
 
 fn is_scale(scale: i128) -> bool

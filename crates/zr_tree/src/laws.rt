@@ -1,14 +1,13 @@
 ghost use Rattle.std.specs.Prelude.{◌≡◌, ◌↔◌, ℕ, List};
-ghost use Rattle.std.specs.List.{All};
 ghost use Rattle.zr_base.specs.Points.{PointOf};
 ghost use Rattle.zr_game.specs.Players.{GameOf, PlayerOf};
 ghost use Rattle.zr_game.specs.Forms.{IsGame, IsPlayer};
 ghost use Rattle.zr_game.specs.Feasible.{IsFeasible};
 ghost use Rattle.zr_game.specs.Leaves.{Bound, BoundHolds, LeafOf, root_leaf};
 ghost use Rattle.zr_tree.specs.Nodes.{NodeOf};
-ghost use Rattle.zr_tree.specs.Form.{IsNodeForm, IsTree};
+ghost use Rattle.zr_tree.specs.Form.{IsTree};
 ghost use Rattle.zr_tree.specs.Trees.{TreeOf, preorder};
-ghost use Rattle.zr_tree.specs.Right.{IsRight};
+ghost use Rattle.zr_tree.specs.Right.{IsRefuted, IsRight};
 ghost use Rattle.zr_tree.specs.Steps.{HasWideProof, IsRefusedAt, Passes};
 ghost use Rattle.zr_tree.specs.declared.fault.Fault.{Fault};
 
@@ -28,5 +27,16 @@ pub fn law_of_passing()
 
 /// A row that a right tree proves holds at every feasible point.
 pub fn law_of_right_trees()
-    ensures { (game : GameOf) → IsGame game → (i : ℕ) (player : PlayerOf) → IsPlayer game i player → (bound : Bound) (t : TreeOf) → All IsNodeForm (preorder t) → IsRight player bound (root_leaf player) t → (x : PointOf) → IsFeasible player x → BoundHolds player x bound }
+    ensures { (game : GameOf) → IsGame game → (i : ℕ) (player : PlayerOf) → IsPlayer game i player
+        → (bound : Bound) (t : TreeOf) → IsRight player bound (root_leaf player) t
+        → (x : PointOf) → IsFeasible player x → BoundHolds player x bound }
+{}
+
+/// A player has no feasible point where a tree refutes its root leaf. Such a tree is right for every
+/// row, and a tree that is right for a row is such a tree where each proof has the scale 0.
+pub fn law_of_refuted_trees()
+    ensures none { (game : GameOf) → IsGame game → (i : ℕ) (player : PlayerOf) → IsPlayer game i player
+        → (t : TreeOf) → IsRefuted player (root_leaf player) t → (x : PointOf) → IsFeasible player x → ⊥ }
+    ensures every { (player : PlayerOf) (bound : Bound) (leaf : LeafOf) (t : TreeOf)
+        → IsRefuted player leaf t → IsRight player bound leaf t }
 {}

@@ -15,7 +15,7 @@ mod tree;
 
 pub use check::bounds;
 pub use fault::Fault;
-pub use laws::{law_of_nodes, law_of_passing, law_of_right_trees};
+pub use laws::{law_of_nodes, law_of_passing, law_of_refuted_trees, law_of_right_trees};
 pub use node::Node;
 pub use scratch::Scratch;
 pub use tree::Tree;

@@ -1,6 +1,7 @@
 ghost use Rattle.std.specs.Prelude.{◌≡◌, ◌<◌, ◌≤◌, ℕ, pos, ◌+ℤ◌, ◌≤ℤ◌, [], ◌∷◌, IsTrue, None, length, map, slice_index_or};
 ghost use Rattle.zr_game.specs.Players.{player_of, var_of};
-ghost use Rattle.zr_game.specs.Leaves.{above, below, decided, greater, leaf_of, lesser, root_leaf, up_of};
+ghost use Rattle.zr_game.specs.Leaves.{above, below, decided, greater, leaf_of, lesser, low_of, root_leaf, up_of};
+ghost use Rattle.zr_tree.specs.Form.{greatest_split};
 ghost use Rattle.zr_tree.specs.Paths.{Entered, HasPlaces, IsPathOf, IsSameSize, due_of};
 
 use zr_game::{Leaf, Player, Side, Var};
@@ -17,7 +18,7 @@ pub(crate) enum Frame {
     /// The second child of a split of `var`; the low bound was `low`.
     SecondOfSplit {
         var: u32,
-        low: i64,
+        low: Option<i64>,
     },
     /// The child where the pair's variable is 0.
     FirstOfChoice {
@@ -48,18 +49,10 @@ pub(crate) fn start(player: &Player, path: &mut Path)
     ensures depth { path.new.depth ≡ 0 }
     ensures size { IsSameSize path.old path.new }
 {
-    clear_lows(&mut path.leaf.low);
+    set_lows(&player.vars, &mut path.leaf.low);
     set_highs(&player.vars, &mut path.leaf.high);
     clear_sides(&mut path.leaf.sides);
     path.depth = 0;
-}
-
-fn clear_lows(low: &mut [i64])
-    ensures { (v : ℕ) → slice_index_or low.new v (pos 0) ≡ pos 0 }
-{
-    for place in low.iter_mut() {
-        *place = 0;
-    }
 }
 
 fn clear_sides(sides: &mut [Side])
@@ -68,6 +61,25 @@ fn clear_sides(sides: &mut [Side])
     for place in sides.iter_mut() {
         *place = Side::Undecided;
     }
+}
+
+/// Sets each low bound to that of the variable of its number, if there is one.
+fn set_lows(vars: &[Var], low: &mut [Option<i64>])
+    requires { length vars.now ≤ length low.old }
+    ensures { (v : ℕ) → slice_index_or low.new v None ≡ low_of (map var_of vars.now) v }
+{
+    for (v, place) in low.iter_mut().enumerate() {
+        *place = lower_bound(vars, v);
+    }
+}
+
+fn lower_bound(vars: &[Var], v: usize) -> Option<i64>
+    ensures { result ≡ low_of (map var_of vars.now) v }
+{
+    if v < vars.len() {
+        return vars[v].low;
+    }
+    None
 }
 
 /// Sets each high bound to that of the variable of its number, if there is one.
@@ -92,7 +104,7 @@ fn upper_bound(vars: &[Var], v: usize) -> Option<i64>
 /// Goes to the first child of a split.
 pub(crate) fn enter_split(player: &Player, var: u32, at: i64, path: &mut Path)
     requires var { var < length (player_of player.now).vars }
-    requires at { at ≤ℤ pos 4611686018427387903 }
+    requires at { at ≤ℤ greatest_split }
     requires path { IsPathOf (player_of player.now) path.old }
     requires place { path.old.depth < length path.old.frames.items }
     ensures { Entered (player_of player.now) (below (leaf_of path.old.leaf) var at ∷ above (leaf_of path.old.leaf) var at ∷ []) path.old path.new }
@@ -113,13 +125,16 @@ fn lesser_of(high: Option<i64>, at: i64) -> i64
     }
 }
 
-/// The greater of a bound and the number after `at`.
-fn greater_of(low: i64, at: i64) -> i64
-    requires { at ≤ℤ pos 4611686018427387903 }
+/// The greater of a bound, if there is one, and the number after `at`.
+fn greater_of(low: Option<i64>, at: i64) -> i64
+    requires { at ≤ℤ greatest_split }
     ensures { result ≡ greater low (at +ℤ pos 1) }
 {
     let next = at + 1;
-    if low <= next { next } else { low }
+    match low {
+        None => next,
+        Some(low) => if low <= next { next } else { low },
+    }
 }
 
 /// Goes to the first child of a choice.
@@ -162,7 +177,7 @@ fn leave(player: &Player, path: &mut Path) -> bool
         Frame::FirstOfSplit { var, at, high } => {
             let low = path.leaf.low[var as usize];
             path.leaf.high[var as usize] = high;
-            path.leaf.low[var as usize] = greater_of(low, at);
+            path.leaf.low[var as usize] = Some(greater_of(low, at));
             path.frames[top] = Frame::SecondOfSplit { var, low };
             true
         }

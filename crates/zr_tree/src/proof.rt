@@ -5,6 +5,7 @@ ghost use Rattle.zr_game.specs.Players.{player_of};
 ghost use Rattle.zr_game.specs.Leaves.{leaf_of};
 ghost use Rattle.zr_tree.specs.Listed.{bound_of};
 ghost use Rattle.zr_tree.specs.Paths.{HasPlaces};
+ghost use Rattle.zr_tree.specs.Right.{ArePositive};
 ghost use Rattle.zr_tree.specs.Visits.{HasForms, ProofTells};
 
 use crate::combination::combine;
@@ -30,6 +31,7 @@ pub(crate) fn proves(
     requires places { HasPlaces (player_of player.now) leaf.now }
     requires coef { length coef.now ≡ length (player_of player.now).vars }
     requires columns { length (player_of player.now).vars ≤ length sums.old }
+    requires positive { ArePositive mult.now }
     ensures { ProofTells result (player_of player.now) (bound_of coef.now le) (leaf_of leaf.now) scale mult.now }
 {
     evaluate(player, leaf, scale, mult, coef, le, &mut sums[..coef.len()])
@@ -48,6 +50,7 @@ fn evaluate(
     requires places { HasPlaces (player_of player.now) leaf.now }
     requires coef { length coef.now ≡ length (player_of player.now).vars }
     requires columns { length sums.old ≡ length (player_of player.now).vars }
+    requires positive { ArePositive mult.now }
     ensures { ProofTells result (player_of player.now) (bound_of coef.now le) (leaf_of leaf.now) scale mult.now }
 {
     if !are_present(player, leaf, mult) {

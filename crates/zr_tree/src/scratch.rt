@@ -45,7 +45,7 @@ impl Scratch {
     {
         let vars = greatest_vars(&game.players);
         let pairs = greatest_pairs(&game.players);
-        let low = vec![in alloc; 0; vars].map_err(|_| NoMemory)?;
+        let low = vec![in alloc; None; vars].map_err(|_| NoMemory)?;
         let high = vec![in alloc; None; vars].map_err(|_| NoMemory)?;
         let sides = vec![in alloc; Side::Undecided; pairs].map_err(|_| NoMemory)?;
         let frames = vec![in alloc; Frame::SecondOfChoice { pair: 0 }; nodes].map_err(

@@ -62,17 +62,35 @@ pub(crate) fn slot_row<'a>(player: &'a Player, leaf: &Leaf, slot: usize) -> Opti
     None
 }
 
-/// `-var <= -low`, or where `second` `var <= high`, if there is a high bound.
-fn var_row<'a>(var: usize, second: bool, low: i64, high: Option<i64>) -> Option<SlotRow<'a>>
+/// `-var <= -low`, or where `second` `var <= high`, if there is such a bound.
+fn var_row<'a>(var: usize, second: bool, low: Option<i64>, high: Option<i64>) -> Option<SlotRow<'a>>
     ensures row { option_map slot_bound result ≡ (if second then high_slot var high else low_slot var low) }
     ensures form { (columns : ℕ) → var < columns → IfSome result (λ row. IsLeft columns row.left) }
 {
-    if !second {
-        return Some(SlotRow {
+    if second {
+        high_row(var, high)
+    } else {
+        low_row(var, low)
+    }
+}
+
+fn low_row<'a>(var: usize, low: Option<i64>) -> Option<SlotRow<'a>>
+    ensures row { option_map slot_bound result ≡ low_slot var low }
+    ensures form { (columns : ℕ) → var < columns → IfSome result (λ row. IsLeft columns row.left) }
+{
+    match low {
+        None => None,
+        Some(low) => Some(SlotRow {
             left: Left::Column { var, number: -1 },
             le: -i128::from(low),
-        });
+        }),
     }
+}
+
+fn high_row<'a>(var: usize, high: Option<i64>) -> Option<SlotRow<'a>>
+    ensures row { option_map slot_bound result ≡ high_slot var high }
+    ensures form { (columns : ℕ) → var < columns → IfSome result (λ row. IsLeft columns row.left) }
+{
     match high {
         None => None,
         Some(high) => Some(SlotRow {

@@ -52,10 +52,11 @@ fn answer(
     Ok(bounds(game, 0, &tree, coef, le, &mut scratch))
 }
 
-fn variable(alloc: Global, whole: bool, up: Option<i64>) -> Result<Var, Fail> {
+fn variable(alloc: Global, whole: bool, low: Option<i64>, up: Option<i64>) -> Result<Var, Fail> {
     Ok(Var {
         name: String::from_str(alloc, "x")?,
         whole,
+        low,
         up,
     })
 }
@@ -69,6 +70,7 @@ fn game(alloc: Global, vars: Vec<Var>, rows: Vec<Row>, pairs: Vec<Pair>) -> Resu
         pairs,
         cost: SmallVec::from_slice(alloc, &[(0, -1)])?,
         cross: Vec::new(alloc),
+        others: Vec::new(alloc),
     };
     match Game::new(vec![in alloc; player]?) {
         Ok(game) => Ok(game),
@@ -78,7 +80,7 @@ fn game(alloc: Global, vars: Vec<Var>, rows: Vec<Row>, pairs: Vec<Pair>) -> Resu
 
 /// A whole variable with `2x <= 5`.
 fn whole_game(alloc: Global) -> Result<Game, Fail> {
-    let vars = vec![in alloc; variable(alloc, true, None)?]?;
+    let vars = vec![in alloc; variable(alloc, true, Some(0), None)?]?;
     let coef = SmallVec::from_slice(alloc, &[(0, 2)])?;
     let rows = vec![in alloc; Row { coef, le: 5 }]?;
     game(alloc, vars, rows, Vec::new(alloc))
@@ -86,8 +88,8 @@ fn whole_game(alloc: Global) -> Result<Game, Fail> {
 
 /// A whole variable up to 3 and another one, with `x + y <= 4`.
 fn mixed_game(alloc: Global) -> Result<Game, Fail> {
-    let x = variable(alloc, true, Some(3))?;
-    let y = variable(alloc, false, None)?;
+    let x = variable(alloc, true, Some(0), Some(3))?;
+    let y = variable(alloc, false, Some(0), None)?;
     let coef = SmallVec::from_slice(alloc, &[(0, 1), (1, 1)])?;
     let rows = vec![in alloc; Row { coef, le: 4 }]?;
     game(alloc, vec![in alloc; x, y]?, rows, Vec::new(alloc))
@@ -95,7 +97,7 @@ fn mixed_game(alloc: Global) -> Result<Game, Fail> {
 
 /// A variable that is 0 or 2, with `x - 2 >= 0`.
 fn pair_game(alloc: Global) -> Result<Game, Fail> {
-    let vars = vec![in alloc; variable(alloc, false, None)?]?;
+    let vars = vec![in alloc; variable(alloc, false, Some(0), None)?]?;
     let coef = SmallVec::from_slice(alloc, &[(0, 1)])?;
     let pairs = vec![in alloc;
         Pair {
@@ -105,6 +107,12 @@ fn pair_game(alloc: Global) -> Result<Game, Fail> {
         },
     ]?;
     game(alloc, vars, Vec::new(alloc), pairs)
+}
+
+/// A whole variable of this lower bound, without an upper one, and no row.
+fn ray_game(alloc: Global, low: Option<i64>) -> Result<Game, Fail> {
+    let vars = vec![in alloc; variable(alloc, true, low, None)?]?;
+    game(alloc, vars, Vec::new(alloc), Vec::new(alloc))
 }
 
 /// Lines, a row's numbers and its right side, and what the check answers.
@@ -194,6 +202,45 @@ fn trees_over_two_variables(rt: HostRuntime) -> Result<(), Fail> {
     ];
     for (lines, coef, le, expected) in &table {
         assert_eq!(rt; answer(rt.alloc(), &game, lines, coef, *le)?, *expected);
+    }
+    Ok(())
+}
+
+#[test]
+fn trees_over_a_free_variable(rt: HostRuntime) -> Result<(), Fail> {
+    use Fault::Bad;
+    use Line::{Leaf, Split};
+    let below_zero = ray_game(rt.alloc(), Some(-7))?;
+    let least = Leaf(1, &[(0, 1)]);
+    assert_eq!(rt;
+        answer(rt.alloc(), &below_zero, &[least], &[-1], 7)?,
+        Ok(())
+    );
+    assert_eq!(rt;
+        answer(rt.alloc(), &below_zero, &[least], &[-1], 6)?,
+        Err(Bad(0))
+    );
+    let free = ray_game(rt.alloc(), None)?;
+    let high = Leaf(1, &[(1, 1)]);
+    let table: [Case; 4] = [
+        (&[least], &[-1], 7, Err(Bad(0))),
+        (&[Split(0, -8), high, least], &[-1], 7, Err(Bad(1))),
+        (&[Split(0, -8), high, least], &[1], 7, Err(Bad(2))),
+        (
+            &[
+                Split(0, -8),
+                Split(0, -9),
+                high,
+                Leaf(1, &[(0, 1), (1, 1)]),
+                least,
+            ],
+            &[1],
+            -9,
+            Err(Bad(3)),
+        ),
+    ];
+    for (lines, coef, le, expected) in &table {
+        assert_eq!(rt; answer(rt.alloc(), &free, lines, coef, *le)?, *expected);
     }
     Ok(())
 }

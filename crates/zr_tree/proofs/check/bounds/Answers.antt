@@ -1,4 +1,4 @@
-use Rattle.std.proofs.Common.{◌≡◌, rules, arith, sym, ap, subst, ◌∙◌, length, map, All, FitsSigned}
+use Rattle.std.proofs.Common.{◌≡◌, rules, arith, sym, ap, subst, ◌∙◌, length, map, FitsSigned}
 use Rattle.std.specs.Int.{w128}
 use Rattle.std.proofs.lemmas.Int.{to_z-of_z}
 use Rattle.std.proofs.lemmas.Result.{MatchResult-weaker, on_ok_weaker}
@@ -8,14 +8,14 @@ use Rattle.zr_game.specs.Games.{game_of}
 use Rattle.zr_game.specs.Leaves.{root_leaf}
 use Rattle.zr_game.proofs.Items.{found, one, read_below}
 use Rattle.zr_tree.specs.Nodes.{node_of}
-use Rattle.zr_tree.specs.Form.{IsNodeForm}
 use Rattle.zr_tree.specs.Listed.{bound_of}
 use Rattle.zr_tree.specs.Scratches.{Places}
-use Rattle.zr_tree.specs.Steps.{IsRefusedAt, Passes}
-use Rattle.zr_tree.proofs.Descent.{holds_at_root, proofs_positive}
+use Rattle.zr_tree.specs.Right.{ProvesRow}
+use Rattle.zr_tree.specs.Steps.{IsRefusedAt, IsWideForRow, Passes}
+use Rattle.zr_tree.proofs.Descent.{holds_at_root}
 use Rattle.zr_tree.proofs.Forests.{tree_of}
 use Rattle.zr_tree.proofs.Greatest.{at_most_greatest}
-use Rattle.zr_tree.proofs.PassLaws.{right_if}
+use Rattle.zr_tree.proofs.PassLaws.{exact_told, right_if}
 use Rattle.zr_tree.proofs.check.bounds.Goals as goal
 use Rattle.zr_tree.proofs.check.bounds.Goals.{After-index-player}
 
@@ -67,11 +67,21 @@ returns-clause-err c =
     let f : FitsSigned w128 c.args.le = search rules in
     MatchResult-weaker c.walk.result (simp to_z-of_z at c.walk.ensures.err) (λ u h. h) (λ fault h player is t e. subst (λ (p : PlayerOf). IsRefusedAt p (bound_of c.args.coef.now c.args.le) 0 (root_leaf p) t fault) (same at player is) (h t (e ∙ ap (map node_of) (sym c.deref.ensures.value))))
 
+pub returns-clause-exact : goal.returns-clause-exact
+returns-clause-exact c player is t e =
+    let at = (goal.at.returns-clause-exact c).After-index-player in
+    let f : FitsSigned w128 c.args.le = search rules in
+    let bound = bound_of c.args.coef.now c.args.le in
+    let listed = e ∙ ap (map node_of) (sym c.deref.ensures.value) in
+    let ok = on_ok_weaker c.walk.result (λ h. subst (λ (p : PlayerOf). Passes p bound (root_leaf p) t) (same at player is) (h t listed)) (simp to_z-of_z at c.walk.ensures.ok) in
+    let err = MatchResult-weaker c.walk.result (simp to_z-of_z at c.walk.ensures.err) (λ u h. h) (λ fault h. subst (λ (p : PlayerOf). IsRefusedAt p bound 0 (root_leaf p) t fault) (same at player is) (h t listed)) in
+    exact_told (ProvesRow player bound) (IsWideForRow player bound) player t (root_leaf player) c.walk.result ok err
+
 pub returns-clause-sound : goal.returns-clause-sound
 returns-clause-sound c =
     let at = (goal.at.returns-clause-sound c).After-index-player in
     let f : FitsSigned w128 c.args.le = search rules in
-    let whole = c.args.tree.now.whole in
-    let t = tree_of (map node_of c.args.tree.now.nodes.items) whole.whole in
-    let positive = proofs_positive t.0 (subst (All IsNodeForm) (sym t.1) whole.forms) in
-    on_ok_weaker c.walk.result (λ h player is x feasible. let p : Passes player (bound_of c.args.coef.now c.args.le) (root_leaf player) t.0 = subst (λ (p : PlayerOf). Passes p (bound_of c.args.coef.now c.args.le) (root_leaf p) t.0) (same at player is) (h t.0 (t.1 ∙ ap (map node_of) (sym c.deref.ensures.value))) in let g = c.args.game.now.sound.players c.args.i player is in holds_at_root player x feasible g.rows g.pairs (bound_of c.args.coef.now c.args.le) t.0 positive (right_if player (bound_of c.args.coef.now c.args.le) t.0 (root_leaf player) p).0) (simp to_z-of_z at c.walk.ensures.ok)
+    let bound = bound_of c.args.coef.now c.args.le in
+    let t = tree_of (map node_of c.args.tree.now.nodes.items) c.args.tree.now.whole.whole in
+    let listed = t.1 ∙ ap (map node_of) (sym c.deref.ensures.value) in
+    on_ok_weaker c.walk.result (λ h player is x feasible. let p : Passes player bound (root_leaf player) t.0 = subst (λ (p : PlayerOf). Passes p bound (root_leaf p) t.0) (same at player is) (h t.0 listed) in let g = c.args.game.now.sound.players c.args.i player is in holds_at_root player x feasible g.rows g.pairs bound t.0 (right_if (ProvesRow player bound) (IsWideForRow player bound) player t.0 (root_leaf player) p).0) (simp to_z-of_z at c.walk.ensures.ok)

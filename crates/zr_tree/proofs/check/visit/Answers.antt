@@ -1,7 +1,16 @@
-use Rattle.std.proofs.Common.{rules, FitsSigned}
+use Rattle.std.proofs.Common.{rules, sym, ap, subst, FitsSigned}
 use Rattle.std.specs.Int.{w128}
 use Rattle.std.proofs.lemmas.Int.{to_z-of_z}
+use Rattle.zr_tree.specs.Form.{IsNodeForm}
+use Rattle.zr_tree.specs.Nodes.{node_of}
+use Rattle.zr_tree.specs.Right.{ArePositive}
+use Rattle.zr_tree.proofs.Combinations.{positive_if}
 use Rattle.zr_tree.proofs.check.visit.Goals as goal
+
+pub visit_proof-requires-clause-positive : goal.visit_proof-requires-clause-positive
+visit_proof-requires-clause-positive c =
+    let f = subst IsNodeForm (ap node_of c.in-Leaf.is) c.requires.node in
+    subst ArePositive (sym c.deref.ensures.value) (positive_if 0 c.in-Leaf.mult.items f.2)
 
 pub returns-in-Leaf-clause-ok : goal.returns-in-Leaf-clause-ok
 returns-in-Leaf-clause-ok c =

@@ -1,4 +1,4 @@
-use Rattle.std.proofs.Common.{◌≡◌, ◌<◌, rules, arith, ◌-◌, sym, ◌∙◌, length, length-set, ℤ, pos, Option, FitsSigned, get_or}
+use Rattle.std.proofs.Common.{◌≡◌, ◌<◌, rules, arith, ◌-◌, sym, ◌∙◌, length, length-set, ℤ, Option, Some, None, FitsSigned, get_or}
 use Rattle.std.specs.Int.{w64}
 use Rattle.std.proofs.lemmas.Int.{to_z-of_z}
 use Rattle.zr_base.proofs.SumSteps.{get_or_default}
@@ -22,10 +22,9 @@ returns-in-FirstOfSplit-clause-second c told =
     let places = c.requires.path.places in
     let e = nearest_is ((goal.at.returns-in-FirstOfSplit-clause-second c).After-index) ∙ c.in-FirstOfSplit.is in
     let f = is_frame (player_of c.args.player.now) path.frames.items path.depth (FirstOfSplit c.in-FirstOfSplit.var c.in-FirstOfSplit.at c.in-FirstOfSplit.high) c.requires.depth e c.requires.path.frames in
-    let l : FitsSigned w64 c.index-low.result.now = search rules in
     let g : FitsSigned w64 c.greater_of.result = search rules in
     let a : FitsSigned w64 c.in-FirstOfSplit.at = search rules in
-    let low : c.index-low.result.now ≡ get_or path.leaf.low.items c.in-FirstOfSplit.var (pos 0) = c.index-low.ensures ∙ get_or_default path.leaf.low.items c.in-FirstOfSplit.var c.index-low.result.now (pos 0) (omega (arith, f.0, places.lows)) in
+    let low : c.index-low.result.now ≡ get_or path.leaf.low.items c.in-FirstOfSplit.var None = c.index-low.ensures ∙ get_or_default path.leaf.low.items c.in-FirstOfSplit.var c.index-low.result.now None (omega (arith, f.0, places.lows)) in
     let made = simp to_z-of_z at c.greater_of.ensures in
     simp to_z-of_z (split_left path.leaf.low.items path.leaf.high.items path.leaf.sides.items path.frames.items path.depth c.requires.depth c.requires.path.depth c.in-FirstOfSplit.var c.in-FirstOfSplit.at c.in-FirstOfSplit.high c.index-low.result.now c.greater_of.result low made (omega (arith, f.0, places.lows)) (omega (arith, f.0, places.highs)) e)
 
@@ -35,9 +34,8 @@ returns-in-FirstOfSplit-clause-path c =
     let places = c.requires.path.places in
     let e = nearest_is ((goal.at.returns-in-FirstOfSplit-clause-path c).After-index) ∙ c.in-FirstOfSplit.is in
     let f = is_frame (player_of c.args.player.now) path.frames.items path.depth (FirstOfSplit c.in-FirstOfSplit.var c.in-FirstOfSplit.at c.in-FirstOfSplit.high) c.requires.depth e c.requires.path.frames in
-    let l : FitsSigned w64 c.index-low.result.now = search rules in
     let g : FitsSigned w64 c.greater_of.result = search rules in
-    let lows = length-set {A = ℤ} path.leaf.low.items c.in-FirstOfSplit.var c.greater_of.result in
+    let lows = length-set {A = Option ℤ} path.leaf.low.items c.in-FirstOfSplit.var (Some c.greater_of.result) in
     let highs = length-set {A = Option ℤ} path.leaf.high.items c.in-FirstOfSplit.var c.in-FirstOfSplit.high in
     let frames = length-set {A = Frame} path.frames.items (path.depth - 1) (SecondOfSplit c.in-FirstOfSplit.var c.index-low.result.now) in
     simp to_z-of_z (record {

@@ -30,4 +30,4 @@ returns c =
     let e = c.in_ok-right.ensures in
     let l = c.in_ok-left.ensures in
     let b = c.in_ok-below.ensures in
-    proof_tells (player_of c.args.player.now) c.args.coef.now c.args.le (leaf_of c.args.leaf.now) c.args.scale c.args.mult.now (c.if-not-are_present.ensures.0 refl) c.requires.coef c.combine.new.sums c.in_ok-right.right e.ok (c.combine.auto.sums ∙ c.requires.columns) c.in_ok-left.left c.in_ok-below.below (simp to_z-of_z at l) (simp to_z-of_z at b)
+    proof_tells (player_of c.args.player.now) c.args.coef.now c.args.le (leaf_of c.args.leaf.now) c.args.scale c.args.mult.now (c.if-not-are_present.ensures.0 refl) c.requires.coef c.combine.new.sums c.in_ok-right.right e.ok (c.combine.auto.sums ∙ c.requires.columns) c.requires.positive c.in_ok-left.left c.in_ok-below.below (simp to_z-of_z at l) (simp to_z-of_z at b)

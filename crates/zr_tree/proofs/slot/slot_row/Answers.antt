@@ -1,4 +1,4 @@
-use Rattle.std.proofs.Common.{rules, arith, ◌-◌, ◌/◌, ◌<◌, ◌≤◌, sym, ap₂, subst, ◌∙◌, pos, None, length, FitsSigned}
+use Rattle.std.proofs.Common.{rules, arith, ◌-◌, ◌/◌, ◌<◌, ◌≤◌, sym, ap₂, subst, ◌∙◌, None, length, FitsSigned}
 use Rattle.std.specs.Int.{w64, w128}
 use Rattle.std.proofs.lemmas.Int.{to_z-of_z}
 use Rattle.std.proofs.lemmas.List.{length-map}
@@ -30,10 +30,9 @@ returns-then-v-len-clause-row c =
     let past : c.len-2.result ≤ c.args.slot = omega (arith, c.if-slot-len.false, c.len.ensures, c.len-2.ensures) in
     let v = (c.args.slot - c.len-2.result) / 2 in
     let columns = length-map c.args.player.now.vars.items var_of in
-    let l : FitsSigned w64 c.index.result.now = search rules in
-    let low = c.index.ensures ∙ get_or_default c.args.leaf.now.low.items v c.index.result.now (pos 0) (omega (arith, c.if-v-len.true, vars, columns, c.requires.places.lows)) in
+    let low = c.index.ensures ∙ get_or_default c.args.leaf.now.low.items v c.index.result.now None (omega (arith, c.if-v-len.true, vars, columns, c.requires.places.lows)) in
     let high = c.index-then-v-len.ensures ∙ get_or_default c.args.leaf.now.high.items v c.index-then-v-len.result.now None (omega (arith, c.if-v-len.true, vars, columns, c.requires.places.highs)) in
-    (simp to_z-of_z at c.var_row.ensures.row) ∙ var_read c.args.player.now (leaf_of c.args.leaf.now) c.args.slot c.len-2.result c.len-3.result rows vars past c.index.result.now c.index-then-v-len.result.now low high c.if-v-len.true
+    c.var_row.ensures.row ∙ var_read c.args.player.now (leaf_of c.args.leaf.now) c.args.slot c.len-2.result c.len-3.result rows vars past c.index.result.now c.index-then-v-len.result.now low high c.if-v-len.true
 
 pub returns-then-p-len-clause-row : goal.returns-then-p-len-clause-row
 returns-then-p-len-clause-row c =
