@@ -49,10 +49,34 @@ fn packer(
 }
 
 fn bit(alloc: Global) -> Var {
+    variable(alloc, true, Some(0), Some(1))
+}
+
+fn variable(alloc: Global, whole: bool, low: Option<i64>, up: Option<i64>) -> Var {
     Var {
         name: String::new(alloc),
-        whole: true,
-        up: Some(1),
+        whole,
+        low,
+        up,
+    }
+}
+
+/// The game of one player with these variables and pairs.
+fn alone(alloc: Global, vars: Vec<Var>, pairs: Vec<Pair>) -> Result<Game, Fail>
+    ensures { IfOk result (λ game. length (game_of game) ≡ 1) }
+{
+    let player = Player {
+        name: String::new(alloc),
+        vars,
+        rows: Vec::new(alloc),
+        pairs,
+        cost: SmallVec::new(alloc),
+        cross: Vec::new(alloc),
+        others: Vec::new(alloc),
+    };
+    match Game::new(vec![in alloc; player]?) {
+        Ok(game) => Ok(game),
+        Err(_) => Err(Fail::from("no game")),
     }
 }
 
@@ -124,6 +148,74 @@ fn feasible_by_hand(rt: HostRuntime) -> Result<(), Fail> {
         let point = pair_of_values(rt.alloc(), num, den)?;
         assert_eq!(rt; feasible(&game, 0, &point).map_err(|_| "wide")?, passes);
     }
+    Ok(())
+}
+
+/// Whether the value `num / den` is feasible for a variable with these bounds.
+fn fits(alloc: Global, var: Var, num: i128, den: i128) -> Result<bool, Fail> {
+    let game = alone(alloc, vec![in alloc; var]?, Vec::new(alloc))?;
+    let Ok(point) = Point::new(vec![in alloc; num]?, den) else {
+        return Err(Fail::from("no point"));
+    };
+    Ok(feasible(&game, 0, &point).map_err(|_| "wide")?)
+}
+
+#[test]
+fn bounds_by_hand(rt: HostRuntime) -> Result<(), Fail> {
+    let alloc = rt.alloc();
+    for (low, up, num, den, passes) in [
+        (None, None, -7, 2, true),
+        (Some(-2), Some(3), -3, 2, true),
+        (Some(-2), Some(3), -5, 2, false),
+        (Some(-2), Some(3), 7, 2, false),
+        (Some(0), None, -1, 2, false),
+    ] {
+        let var = variable(alloc, false, low, up);
+        assert_eq!(rt; fits(alloc, var, num, den)?, passes);
+    }
+    Ok(())
+}
+
+/// Whether 1 or -1 is a ray at 0 of a player with one variable.
+fn goes_on(alloc: Global, whole: bool, low: Option<i64>, rises: bool) -> Result<bool, Fail> {
+    let var = variable(alloc, whole, low, None);
+    let game = alone(alloc, vec![in alloc; var]?, Vec::new(alloc))?;
+    let Ok(base) = Point::new(vec![in alloc; 0]?, 1) else {
+        return Err(Fail::from("no point"));
+    };
+    let change = if rises { 1 } else { -1 };
+    Ok(is_ray(&game, 0, &base, &[change]).map_err(|_| "wide")?)
+}
+
+/// Whether `(1, 0)` is a ray at `(0, t)` of a player with `s`, `t` up to 1 and the pair
+/// `s`, `1 - t`.
+fn leaves_pair(alloc: Global, t: i128) -> Result<bool, Fail> {
+    let first = variable(alloc, false, Some(0), None);
+    let second = variable(alloc, false, Some(0), Some(1));
+    let pair = Pair {
+        var: 0,
+        coef: SmallVec::from_slice(alloc, &[(1, -1)])?,
+        add: 1,
+    };
+    let game = alone(alloc, vec![in alloc; first, second]?, vec![in alloc; pair]?)?;
+    let base = pair_of_values(alloc, [0, t], 1)?;
+    Ok(is_ray(&game, 0, &base, &[1, 0]).map_err(|_| "wide")?)
+}
+
+#[test]
+fn rays_by_hand(rt: HostRuntime) -> Result<(), Fail> {
+    let alloc = rt.alloc();
+    for whole in [false, true] {
+        assert!(rt; goes_on(alloc, whole, Some(0), true)?);
+        assert!(rt; goes_on(alloc, whole, None, false)?);
+        assert!(rt; !goes_on(alloc, whole, Some(0), false)?);
+    }
+    assert!(rt; leaves_pair(alloc, 1)?);
+    assert!(rt; !leaves_pair(alloc, 0)?);
+    let one = variable(alloc, false, Some(0), None);
+    let game = alone(alloc, vec![in alloc; one]?, Vec::new(alloc))?;
+    let base = pair_of_values(alloc, [0, 0], 1)?;
+    assert!(rt; !is_ray(&game, 0, &base, &[1]).map_err(|_| "wide")?);
     Ok(())
 }
 
