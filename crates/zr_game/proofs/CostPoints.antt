@@ -1,5 +1,5 @@
 -- The terms of a game's player at one point per player.
-use Rattle.std.proofs.Common.{ℕ, ◌<◌, arith, sym, subst, List, None, length, get_or, All}
+use Rattle.std.proofs.Common.{ℕ, ◌<◌, arith, sym, subst, List, length, get_or, All}
 use Rattle.std.proofs.lemmas.Option.{slice_get_within}
 use Rattle.zr_base.specs.Points.{PointOf}
 use Rattle.zr_game.specs.Players.{GameOf, PlayerOf}

@@ -1,5 +1,5 @@
 -- The laws of means, over the definitions.
-use Rattle.std.proofs.Common.{◌≡◌, ◌≢◌, ◌↔◌, ℕ, zero, suc, ◌<◌, ◌==◌, arith, refl, sym, ap, ap₂, subst, ◌∙◌, ℤ, pos, ◌*ℤ◌, ◌<ℤ◌, ◌≤ℤ◌, ◌≤◌, Option, List, [], ◌∷◌, length, get_or, slice_get, Some, None, ⊎_elim, get_or-set_other, get_or-set_same, length-set}
+use Rattle.std.proofs.Common.{◌≡◌, ◌≢◌, ◌↔◌, ℕ, zero, suc, ◌<◌, ◌==◌, arith, refl, sym, ap, ap₂, subst, ◌∙◌, pos, ◌*ℤ◌, ◌<ℤ◌, ◌≤ℤ◌, ◌≤◌, Option, List, [], ◌∷◌, length, get_or, slice_get, Some, None, ⊎_elim, get_or-set_other, get_or-set_same, length-set}
 use Rattle.std.specs.List.{filter}
 use Rattle.std.specs.Option.{option_map_or}
 use Rattle.std.proofs.lemmas.Int.{ints}

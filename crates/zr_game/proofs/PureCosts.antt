@@ -1,13 +1,12 @@
 -- The expected cost of a pure profile is the cost at its points.
-use Rattle.std.proofs.Common.{ℕ, ◌<◌, ◌≤◌, arith, sym, subst, ℤ, pos, ◌*ℤ◌, ◌<ℤ◌, List, length, slice_set, All, ⊎_elim}
-use Rattle.std.proofs.lemmas.Int.{ints}
+use Rattle.std.proofs.Common.{ℕ, sym, subst, pos, ◌<ℤ◌, slice_set, All}
 use Rattle.zr_base.proofs.Divisors.{mul_positive}
 use Rattle.zr_base.specs.Fractions.{Fraction, IsSame}
 use Rattle.zr_base.specs.Points.{PointOf}
 use Rattle.zr_game.specs.Players.{GameOf, PlayerOf}
 use Rattle.zr_game.specs.Forms.{IsPlayer}
 use Rattle.zr_game.specs.Feasible.{IsFeasible}
-use Rattle.zr_game.specs.Costs.{cost_of, point_of}
+use Rattle.zr_game.specs.Costs.{cost_of}
 use Rattle.zr_game.specs.Profiles.{IsProfile, Profile, deviation, expected_cost, totals}
 use Rattle.zr_game.specs.PureProfiles.{points_of}
 use Rattle.zr_game.proofs.ByMeans.{totals_positive}

@@ -1,6 +1,5 @@
 -- Pure profiles are compared by the costs at their points.
-use Rattle.std.proofs.Common.{◌≡◌, ◌↔◌, ℕ, arith, refl, sym, subst, ℤ, pos, ◌*ℤ◌, ◌<ℤ◌, List, [], ◌∷◌, slice_set, All}
-use Rattle.std.proofs.lemmas.Int.{ints}
+use Rattle.std.proofs.Common.{◌≡◌, ◌↔◌, ℕ, refl, sym, subst, ℤ, pos, ◌*ℤ◌, ◌<ℤ◌, List, slice_set, All}
 use Rattle.zr_base.specs.Fractions.{Fraction, IsAtMost, IsSame, HaveSameCross, over}
 use Rattle.zr_base.specs.Points.{PointOf, value_of}
 use Rattle.zr_base.proofs.Divisors.{mul_positive}

@@ -1,5 +1,5 @@
 -- How much of each thing a player may have.
-use Rattle.std.specs.Prelude.{◌≤◌, length}
+use Rattle.std.specs.Prelude.{ℕ, ◌≤◌, length}
 use Rattle.zr_game.specs.Players.{PlayerOf}
 
 pub record AreCounts (player : PlayerOf) : Type 0 where
@@ -9,3 +9,7 @@ pub record AreCounts (player : PlayerOf) : Type 0 where
   pub pairs : length player.pairs ≤ 32
   pub cross : length player.cross ≤ 65536
   pub others : length player.others ≤ 65536
+
+-- how many variables a player has
+abbrev pub var_count : PlayerOf → ℕ
+var_count player = length player.vars

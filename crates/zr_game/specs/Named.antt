@@ -1,5 +1,4 @@
 -- Points and rays of a player that are named.
-use Rattle.std.specs.Prelude.{List}
 use Rattle.zr_base.specs.Points.{PointOf}
 use Rattle.zr_game.specs.Players.{PlayerOf}
 use Rattle.zr_game.specs.Feasible.{IsFeasible}

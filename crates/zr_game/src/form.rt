@@ -1,10 +1,10 @@
-ghost use Rattle.std.specs.Prelude.{◌≡◌, ◌≢◌, ◌↔◌, ◌<◌, ◌≤◌, ℕ, IsTrue, length, map};
+ghost use Rattle.std.specs.Prelude.{◌≡◌, ◌≢◌, ◌↔◌, ◌<◌, ◌≤◌, ℕ, IsTrue, length, map, take};
 ghost use Rattle.std.specs.List.{All, AllPairs};
 ghost use Rattle.std.specs.Option.{ForSome};
 ghost use Rattle.std.specs.declared.cmp.Ordering.TheVariants.{Less};
 ghost use Rattle.zr_base.specs.Rows.{row_of};
-ghost use Rattle.zr_game.specs.Players.{PlayerOf, pair_of, player_of, players_of, var_of};
-ghost use Rattle.zr_game.specs.Counts.{AreCounts};
+ghost use Rattle.zr_game.specs.Players.{GameOf, PlayerOf, pair_of, player_of, players_of, var_of};
+ghost use Rattle.zr_game.specs.Counts.{AreCounts, var_count};
 ghost use Rattle.zr_game.specs.Forms.{AreTerms, HasVar, IsCoefficient, IsCrossForm, IsFromZero, IsGame, IsNumber, IsOrdered, IsOtherForm, IsOthersVar, IsPairForm, IsPlayer, IsPlayerForm, IsRowForm, IsVarForm, cross_order, other_order, place_order};
 
 use crate::player::{CrossTerm, Other, Pair, Player, Var};
@@ -21,22 +21,36 @@ pub(crate) fn is_game(players: &[Player]) -> bool
     if players.is_empty() || players.len() > 16 {
         return false;
     }
-    are_players(players)
+    let counts = var_counts(players);
+    are_players(players, &counts[..players.len()])
 }
 
-fn are_players(players: &[Player]) -> bool
+/// How many variables each player has.
+fn var_counts(players: &[Player]) -> [usize; 16]
+    requires { length players.now ≤ 16 }
+    ensures { take (length players.now) result ≡ map var_count (players_of players.now) }
+{
+    let mut counts = [0; 16];
+    for (i, player) in players.iter().enumerate() {
+        counts[i] = player.vars.len();
+    }
+    counts
+}
+
+fn are_players(players: &[Player], counts: &[usize]) -> bool
+    requires { counts.now ≡ map var_count (players_of players.now) }
     ensures { IsTrue result ↔ ((i : ℕ) (player : PlayerOf) → IsPlayer (players_of players.now) i player → IsPlayerForm (players_of players.now) i player) }
 {
     let mut all = true;
     for (i, player) in players.iter().enumerate() {
-        all &= is_player(player, i, players);
+        all &= is_player(player, i, counts);
     }
     all
 }
 
-/// Whether player `i` of the players keeps the rules.
-fn is_player(player: &Player, i: usize, players: &[Player]) -> bool
-    ensures { IsTrue result ↔ IsPlayerForm (players_of players.now) i (player_of player.now) }
+/// Whether a player keeps the rules as number `i` of a game whose players have so many variables.
+pub fn is_player(player: &Player, i: usize, counts: &[usize]) -> bool
+    ensures { (game : GameOf) → map var_count game ≡ counts.now → (IsTrue result ↔ IsPlayerForm game i (player_of player.now)) }
 {
     let columns = player.vars.len();
     are_counts(player)
@@ -44,10 +58,10 @@ fn is_player(player: &Player, i: usize, players: &[Player]) -> bool
         & are_rows(&player.rows, columns)
         & are_pairs(&player.pairs, columns)
         & are_terms(player.cost.as_slice(), columns)
-        & are_cross_terms(&player.cross, i, columns, players)
+        & are_cross_terms(&player.cross, i, columns, counts)
         & ascend(&player.cross)
         & are_from_zero(&player.pairs, &player.vars)
-        & are_others(&player.others, i, players)
+        & are_others(&player.others, i, counts)
         & others_ascend(&player.others)
 }
 
@@ -97,7 +111,8 @@ fn is_ordered(low: Option<i64>, up: Option<i64>) -> bool
     }
 }
 
-fn are_rows(rows: &[Row], columns: usize) -> bool
+/// Whether rows keep the rules over so many variables.
+pub fn are_rows(rows: &[Row], columns: usize) -> bool
     ensures { IsTrue result ↔ All (IsRowForm columns) (map row_of rows.now) }
 {
     let mut all = true;
@@ -130,7 +145,7 @@ fn is_pair(pair: &Pair, columns: usize) -> bool
 }
 
 /// Whether terms stand in the order of their columns, each below `columns`.
-fn are_terms(coef: &[(u32, i64)], columns: usize) -> bool
+pub fn are_terms(coef: &[(u32, i64)], columns: usize) -> bool
     ensures { IsTrue result ↔ AreTerms columns coef.now }
 {
     let mut low = 0;
@@ -149,7 +164,8 @@ fn is_next_term(low: usize, columns: usize, column: usize, number: i64) -> bool
     low <= column && column < columns && is_coefficient(number)
 }
 
-fn is_coefficient(z: i64) -> bool
+/// Whether a number may be one of a term: it is within ±1,000,000,000, and isn't 0.
+pub fn is_coefficient(z: i64) -> bool
     ensures { IsTrue result ↔ IsCoefficient z }
 {
     is_number(z) && z != 0
@@ -161,30 +177,30 @@ fn is_number(z: i64) -> bool
     -NUMBER_LIMIT <= z && z <= NUMBER_LIMIT
 }
 
-fn are_cross_terms(cross: &[CrossTerm], i: usize, columns: usize, players: &[Player]) -> bool
-    ensures { IsTrue result ↔ All (IsCrossForm (players_of players.now) i columns) cross.now }
+fn are_cross_terms(cross: &[CrossTerm], i: usize, columns: usize, counts: &[usize]) -> bool
+    ensures { (game : GameOf) → map var_count game ≡ counts.now → (IsTrue result ↔ All (IsCrossForm game i columns) cross.now) }
 {
     let mut all = true;
     for t in cross {
-        all &= is_cross_term(t, i, columns, players);
+        all &= is_cross_term(t, i, columns, counts);
     }
     all
 }
 
-fn is_cross_term(t: &CrossTerm, i: usize, columns: usize, players: &[Player]) -> bool
-    ensures { IsTrue result ↔ IsCrossForm (players_of players.now) i columns t.now }
+fn is_cross_term(t: &CrossTerm, i: usize, columns: usize, counts: &[usize]) -> bool
+    ensures { (game : GameOf) → map var_count game ≡ counts.now → (IsTrue result ↔ IsCrossForm game i columns t.now) }
 {
     (t.own as usize) < columns
         && t.player as usize != i
-        && has_var(players, t.player as usize, t.var as usize)
+        && has_var(counts, t.player as usize, t.var as usize)
         && is_coefficient(t.coef)
 }
 
 /// Whether there is a player `k` with a variable `v`.
-fn has_var(players: &[Player], k: usize, v: usize) -> bool
-    ensures { IsTrue result ↔ ((k < length (players_of players.now)) × HasVar (players_of players.now) k v) }
+fn has_var(counts: &[usize], k: usize, v: usize) -> bool
+    ensures { (game : GameOf) → map var_count game ≡ counts.now → (IsTrue result ↔ ((k < length game) × HasVar game k v)) }
 {
-    k < players.len() && v < players[k].vars.len()
+    k < counts.len() && v < counts[k]
 }
 
 /// Whether the variable of each pair has the lower bound 0.
@@ -204,39 +220,39 @@ fn is_from_zero(vars: &[Var], v: usize) -> bool
     v >= vars.len() || vars[v].low == Some(0)
 }
 
-fn are_others(others: &[Other], i: usize, players: &[Player]) -> bool
-    ensures { IsTrue result ↔ All (IsOtherForm (players_of players.now) i) others.now }
+fn are_others(others: &[Other], i: usize, counts: &[usize]) -> bool
+    ensures { (game : GameOf) → map var_count game ≡ counts.now → (IsTrue result ↔ All (IsOtherForm game i) others.now) }
 {
     let mut all = true;
     for t in others {
-        all &= is_other(t, i, players);
+        all &= is_other(t, i, counts);
     }
     all
 }
 
-fn is_other(t: &Other, i: usize, players: &[Player]) -> bool
-    ensures { IsTrue result ↔ IsOtherForm (players_of players.now) i t.now }
+fn is_other(t: &Other, i: usize, counts: &[usize]) -> bool
+    ensures { (game : GameOf) → map var_count game ≡ counts.now → (IsTrue result ↔ IsOtherForm game i t.now) }
 {
-    is_others_var(t.first, i, players)
-        && is_second(t.first, t.second, i, players)
+    is_others_var(t.first, i, counts)
+        && is_second(t.first, t.second, i, counts)
         && is_coefficient(t.coef)
 }
 
 /// Whether the second variable, where there is one, is that of a later player than the first.
-fn is_second(first: (u32, u32), second: Option<(u32, u32)>, i: usize, players: &[Player]) -> bool
-    ensures { IsTrue result ↔ ForSome second (λ at. (first.0 < at.0) × IsOthersVar (players_of players.now) i at) }
+fn is_second(first: (u32, u32), second: Option<(u32, u32)>, i: usize, counts: &[usize]) -> bool
+    ensures { (game : GameOf) → map var_count game ≡ counts.now → (IsTrue result ↔ ForSome second (λ at. (first.0 < at.0) × IsOthersVar game i at)) }
 {
     match second {
         None => true,
-        Some(at) => first.0 < at.0 && is_others_var(at, i, players),
+        Some(at) => first.0 < at.0 && is_others_var(at, i, counts),
     }
 }
 
 /// Whether there is such a variable, of another player than `i`.
-fn is_others_var(at: (u32, u32), i: usize, players: &[Player]) -> bool
-    ensures { IsTrue result ↔ IsOthersVar (players_of players.now) i at }
+fn is_others_var(at: (u32, u32), i: usize, counts: &[usize]) -> bool
+    ensures { (game : GameOf) → map var_count game ≡ counts.now → (IsTrue result ↔ IsOthersVar game i at) }
 {
-    at.0 as usize != i && has_var(players, at.0 as usize, at.1 as usize)
+    at.0 as usize != i && has_var(counts, at.0 as usize, at.1 as usize)
 }
 
 /// Whether the others' terms stand in their order.

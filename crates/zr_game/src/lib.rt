@@ -15,6 +15,7 @@ mod substitution;
 
 pub use choice::Choice;
 pub use costs::cost;
+pub use form::{are_rows, are_terms, is_coefficient, is_player};
 pub use game::Game;
 pub use kind::Kind;
 pub use laws::{

@@ -1,4 +1,4 @@
-use Rattle.std.proofs.Common.{◌≡◌, ◌↔◌, ℕ, ◌<◌, sym, subst, ◌∙◌, ap, ℤ, pos, int_eq, Bool, IsTrue, Option, None, Some, List, length, map, get_or, slice_get}
+use Rattle.std.proofs.Common.{◌≡◌, ◌↔◌, ℕ, ◌<◌, subst, ap, ℤ, pos, int_eq, Bool, IsTrue, Option, None, Some, List, length, map, get_or, slice_get}
 use Rattle.std.specs.Option.{option_eq}
 use Rattle.std.proofs.lemmas.Bool.Decides.{Decides-int_eq}
 use Rattle.zr_game.specs.declared.player.Var.{Var}

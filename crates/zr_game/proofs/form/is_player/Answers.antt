@@ -1,11 +1,10 @@
 use Rattle.std.proofs.Common.{◌∙◌}
-use Rattle.zr_game.specs.Players.{player_of, players_of}
+use Rattle.zr_game.specs.Players.{player_of}
 use Rattle.zr_game.proofs.GameForms.{Tests, form_told, vars_len}
 use Rattle.zr_game.proofs.form.is_player.Goals as goal
 
 pub returns : goal.returns
-returns c =
-    let game = players_of c.args.players.now in
+returns c game are =
     let player = player_of c.args.player.now in
     let columns = c.len-columns.result in
     let tests : Tests game c.args.i player columns c.are_counts.result c.are_vars.result
@@ -18,11 +17,11 @@ returns c =
       rows_told = rw c.deref-2.ensures.value at c.are_rows.ensures;
       pairs_told = rw c.deref-3.ensures.value at c.are_pairs.ensures;
       cost_told = rw c.as_slice.ensures at c.are_terms.ensures;
-      cross_told = rw c.deref-4.ensures.value at c.are_cross_terms.ensures;
+      cross_told = rw c.deref-4.ensures.value at (c.are_cross_terms.ensures game are);
       ascend_told = rw c.deref-5.ensures.value at c.ascend.ensures;
       zero_told =
           rw (c.deref-6.ensures.value, c.deref-7.ensures.value) at c.are_from_zero.ensures;
-      others_told = rw c.deref-8.ensures.value at c.are_others.ensures;
+      others_told = rw c.deref-8.ensures.value at (c.are_others.ensures game are);
       order_told = rw c.deref-9.ensures.value at c.others_ascend.ensures;
     }
     in
