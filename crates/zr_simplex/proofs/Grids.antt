@@ -1,5 +1,5 @@
 -- Rows that stand one after the other in a list.
-use Rattle.std.proofs.Common.{◌≡◌, ◌≢◌, ℕ, zero, suc, ◌+◌, ◌*◌, ◌-◌, ◌<◌, ◌≤◌, arith, refl, sym, ap, ◌∙◌, ⊎_elim, ℤ, List, [], ◌++◌, length, get_or, take, drop, mul-le-mul_right}
+use Rattle.std.proofs.Common.{◌≡◌, ◌≢◌, ℕ, suc, ◌+◌, ◌*◌, ◌-◌, ◌<◌, ◌≤◌, arith, refl, sym, ap, ◌∙◌, ⊎_elim, ℤ, List, ◌++◌, length, take, drop, mul-le-mul_right}
 use Rattle.std.specs.List.{All}
 use Rattle.std.proofs.lemmas.List.{drop-drop, length-take-le, length-append, length-drop, take-append-le, drop-append-le, take_at, drop_at}
 use Rattle.std.proofs.lemmas.List.Elements.{All-append, All-take, All-drop}
@@ -7,8 +7,7 @@ use Rattle.std.proofs.lemmas.Slice.{between_is, between-put_mid, take-put_mid_be
 use Rattle.std.proofs.lemmas.Bool.{cases_lt}
 use borrow.Rule.Slice.PartMut.{put_mid}
 use Rattle.zr_base.specs.Steps.{IsNarrow}
-use Rattle.zr_simplex.specs.RowSteps.{row_in}
-use Rattle.zr_simplex.specs.Tableaus.{rows_in}
+use Rattle.zr_simplex.specs.Tableaus.{row_in}
 
 -- row k ends where row i begins, or before
 pub row_end : (k i w : ℕ) → k < i → k * w + w ≤ i * w
@@ -67,14 +66,6 @@ module _ (w : ℕ) (xs ys : List ℤ) (i : ℕ) (len : length ys ≡ w) (inside 
   pub narrow_put : All IsNarrow xs → All IsNarrow ys → All IsNarrow (put_mid (i * w) w xs ys)
   narrow_put all new =
       All-append IsNarrow (take (i * w) xs) (ys ++ drop w (drop (i * w) xs)) (All-take IsNarrow (i * w) xs all) (All-append IsNarrow ys (drop w (drop (i * w) xs)) new (All-drop IsNarrow w (drop (i * w) xs) (All-drop IsNarrow (i * w) xs all)))
-
--- the rows of a list as a list
-pub rows_in-at : (n w : ℕ) (xs : List ℤ) (i : ℕ) → i < n → get_or (rows_in n w xs) i [] ≡ row_in w xs i
-rows_in-at zero w xs i h = absurd (omega arith)
-rows_in-at (suc n) w xs zero h = let e : 0 * w ≡ 0 = omega arith in rw e refl
-rows_in-at (suc n) w xs (suc i) h =
-    let e : suc i * w ≡ w + i * w = omega arith in
-    rows_in-at n w (drop w xs) i (omega arith) ∙ rw (e, ← drop-drop (i * w) w xs) refl
 
 pub row_in-length : (n w : ℕ) (xs : List ℤ) (i : ℕ) → i < n → length xs ≡ n * w → length (row_in w xs i) ≡ w
 row_in-length n w xs i h len =

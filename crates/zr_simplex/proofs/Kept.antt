@@ -8,6 +8,7 @@ use Rattle.zr_simplex.specs.Tableaus.{Equations, basis_of, form_of}
 use Rattle.zr_simplex.specs.Dues.{IsTableau}
 
 pub solved_of : (p : Program) (t : Equations) → IsTableau p t → IsSolved (length t.basis) t.width (basis_of t) (form_of t)
+unfolding form_of
 solved_of p t kept = record {
   places = λ i h. ⊎_elim (λ (s : i ≡ p.rows). let v = kept.form.value in rw s (omega (arith, v, kept.width))) (λ (a : i ≢ p.rows). let c = kept.form.columns i (omega (arith, h, kept.count)) in omega (arith, c, kept.width)) (cases_eq i p.rows);
   own = λ i h. kept.form.own i (omega (arith, h, kept.count));

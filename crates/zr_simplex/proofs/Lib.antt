@@ -5,7 +5,11 @@ mod Subtract
 mod Clear
 mod Grids
 mod Turn
-mod Views
+mod Stands
+mod Held
+mod First
+mod Swaps
+mod Condensed
 mod Sums
 mod Signs
 mod Forms

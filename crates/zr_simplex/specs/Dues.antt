@@ -6,7 +6,7 @@ use Rattle.zr_simplex.specs.declared.choose.Due.TheVariants.{Best, Empty, Unboun
 use Rattle.zr_basis.specs.Programs.{Program}
 use Rattle.zr_basis.specs.BasicForms.{right_column, value_column, IsBasicForm}
 use Rattle.zr_simplex.specs.Pivots.{IsDue}
-use Rattle.zr_simplex.specs.Tableaus.{Equations, basis_of, form_of}
+use Rattle.zr_simplex.specs.Tableaus.{Equations, IsPartition, basis_of, form_of, free_of}
 
 -- e holds where the columns have the values `x j / d`
 abbrev pub HoldsAt : Program → (ℕ → ℤ) → (ℕ → ℤ) → ℤ → Type 0
@@ -20,10 +20,13 @@ AreSlacks p x d = (r : ℕ) → r < p.rows → sum_to p.columns (λ j. p.coef r 
 abbrev pub IsComplete : Program → (ℕ → ℕ → ℤ) → Type 0
 IsComplete p form = (x : ℕ → ℤ) (d : ℤ) → ((i : ℕ) → i < p.rows → HoldsAt p (form i) x d) → AreSlacks p x d
 
--- the equations are the basic form of the basis
+-- the equations are the basic form of the basis; off it stand as many columns as the program has, and last that of the right sides
 pub record IsTableau (p : Program) (t : Equations) : Type 0 where
   pub count : length t.basis ≡ p.rows + 1
   pub width : t.width ≡ p.columns + p.rows + 2
+  pub partition : IsPartition t.width t.basis t.free
+  pub free_count : length t.free ≡ p.columns + 1
+  pub right : free_of t p.columns ≡ right_column p
   pub form : IsBasicForm p (basis_of t) (form_of t)
   pub complete : IsComplete p (form_of t)
 

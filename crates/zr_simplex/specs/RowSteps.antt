@@ -1,7 +1,11 @@
 -- The steps of a pivot on the equations, one after the other.
-use Rattle.std.specs.Prelude.{◌≡◌, ◌≢◌, ◌↔◌, ℕ, ◌+◌, ◌*◌, ◌<◌, ◌≤◌, ℤ, pos, ◌-ℤ◌, ◌*ℤ◌, ◌<ℤ◌, unsigned_abs, List, take, drop}
+use Rattle.std.specs.Prelude.{◌≡◌, ◌≢◌, ◌↔◌, ℕ, ◌+◌, ◌<◌, ◌≤◌, ℤ, pos, ◌-ℤ◌, ◌*ℤ◌, ◌<ℤ◌, unsigned_abs, List, slice_set, Err}
 use Rattle.std.specs.Int.{◌∣◌}
+use Rattle.zr_base.specs.declared.step.Wide.{Wide}
+use Rattle.zr_base.specs.Steps.{cross_of}
+use Rattle.zr_simplex.specs.Programs.{numbers}
 use Rattle.zr_basis.specs.BasicForms.{IsReduced}
+use Rattle.zr_simplex.specs.StuckSteps.{AreCoprimeParts}
 
 -- made is e divided by a number
 pub record IsQuotient (width : ℕ) (e made : ℕ → ℤ) : Type 0 where
@@ -22,12 +26,36 @@ pub record IsMixture (width : ℕ) (e f made : ℕ → ℤ) : Type 0 where
 abbrev pub IsGreatest : ℕ → (ℕ → ℤ) → ℕ → Type 0
 IsGreatest count f g = (d : ℕ) → ((j : ℕ) → j < count → d ∣ unsigned_abs (f j)) ↔ (d ∣ g)
 
--- f has cleared column col of e, whose number at column home is above zero again
-pub record IsCleared (width : ℕ) (f e made : ℕ → ℤ) (col home : ℕ) : Type 0 where
+-- made is a mixture of e and f in which the number a of the one and p of the other at the pivot's column cancel out, has no common divisor, and is above zero at its own place
+pub record IsCleared (width : ℕ) (p a : ℤ) (f e made : ℕ → ℤ) (home : ℕ) : Type 0 where
   pub mixture : IsMixture width e f made
-  pub zero : made col ≡ pos 0
+  pub cleared : mixture.by *ℤ a ≡ mixture.less *ℤ p
   pub own : (pos 0) <ℤ made home
   pub reduced : IsReduced width made
+
+-- w is the step that makes the number at place j where p of the equation f clears a of the equation e
+abbrev pub IsWideClear : ℤ → ℤ → (ℕ → ℤ) → (ℕ → ℤ) → ℕ → Wide → Type 0
+IsWideClear p a f e j w =
+    (by : ℤ) × (less : ℤ) × (a ≢ pos 0) × AreCoprimeParts p a by less × (cross_of (by, e j) (less, f j) ≡ Err w)
+
+-- an equation after its column has come in at this place, where it is zero
+abbrev pub entered : ℕ → List ℤ → List ℤ
+entered place xs = slice_set xs place (pos 0)
+
+-- the pivot's equation for the others: its column comes in at this place, and another one takes its own
+abbrev pub left : ℕ → ℕ → List ℤ → List ℤ
+left place own xs = slice_set (slice_set xs place (numbers xs own)) own (pos 0)
+
+-- the pivot's equation after the exchange of its own number and that at this place
+abbrev pub swapped : ℕ → ℕ → List ℤ → List ℤ
+swapped place own xs = slice_set (left place own xs) own (numbers xs place)
+
+-- the condensed equations after the column at this place has taken that of the basis column of equation r
+pub record IsExchange (count own r place : ℕ) (old made : ℕ → List ℤ) : Type 0 where
+  pub pivoted : IsQuotient (own + 1) (numbers (swapped place own (old r))) (numbers (made r))
+  pub here : (pos 0) <ℤ numbers (made r) own
+  pub reduced : IsReduced (own + 1) (numbers (made r))
+  pub changed : (i : ℕ) → i < count → i ≢ r → IsCleared (own + 1) (numbers (old r) place) (numbers (old i) place) (numbers (left place own (old r))) (numbers (entered place (old i))) (numbers (made i)) own
 
 -- each of the first equations stands for its column of the basis: above zero there, zero at the others
 pub record IsSolved (count width : ℕ) (basis : ℕ → ℕ) (form : ℕ → ℕ → ℤ) : Type 0 where
@@ -52,6 +80,8 @@ pub record IsStart (columns width own : ℕ) (coef : ℕ → ℤ) (le : ℤ) (e 
   pub right : e (width + 1) ≡ le
   pub zeros : (j : ℕ) → columns ≤ j → j < width + 1 → j ≢ own → e j ≡ pos 0
 
--- row i of a list in which rows stand one after the other
-abbrev pub row_in : ℕ → List ℤ → ℕ → List ℤ
-row_in width xs i = take width (drop (i * width) xs)
+-- the condensed equation has the coefficients, then the right side, and 1 at its own column
+pub record IsFirst (columns : ℕ) (coef : ℕ → ℤ) (le : ℤ) (e : ℕ → ℤ) : Type 0 where
+  pub coefs : (j : ℕ) → j < columns → e j ≡ coef j
+  pub right : e columns ≡ le
+  pub one : e (columns + 1) ≡ pos 1

@@ -3,6 +3,7 @@
 
 mod basic;
 mod choose;
+mod columns;
 mod listed;
 mod pivot;
 mod program;

@@ -1,13 +1,20 @@
-ghost use Rattle.std.specs.Prelude.{◌≡◌, ◌≢◌, ◌<◌, ◌+◌, ◌*◌, ℕ, ℤ, pos, ◌<ℤ◌, length, slice_index, IfErr, OnOk};
+ghost use Rattle.std.specs.Prelude.{◌≡◌, ◌≢◌, ◌<◌, ◌+◌, ◌*◌, ℕ, ℤ, pos, ◌<ℤ◌, length, slice_set, IfErr, OnOk};
 ghost use Rattle.std.specs.List.{All};
 ghost use Rattle.zr_base.specs.Steps.{IsNarrow};
 ghost use Rattle.zr_simplex.specs.Programs.{numbers};
 ghost use Rattle.zr_basis.specs.BasicForms.{IsReduced};
-ghost use Rattle.zr_simplex.specs.StuckSteps.{IsWidePivot};
-ghost use Rattle.zr_simplex.specs.RowSteps.{IsCleared, IsPivot, IsSolved, row_in};
+ghost use Rattle.zr_simplex.specs.Tableaus.{row_in};
+ghost use Rattle.zr_simplex.specs.RowSteps.{IsCleared, IsExchange, IsQuotient, IsWideClear, entered, left};
 
-use crate::row::{clear, reduce};
+use crate::row::{At, Entry, clear, reduce};
 use zr_base::Wide;
+
+/// An equation, and its place, at which a step was too wide.
+#[derive(Clone, Copy)]
+pub(crate) struct RowAt {
+    pub row: usize,
+    pub at: At,
+}
 
 /// The equation and the column at which a step was too wide.
 #[derive(Clone, Copy)]
@@ -17,76 +24,106 @@ pub(crate) struct Place {
     pub wide: Wide,
 }
 
-/// Clears a column of each row by the pivot's row; `basis` has the rows' own columns.
-fn clear_rows(rows: &mut [i128], pivot: &[i128], column: usize, basis: &[u32]) -> Result<(), Place>
-    requires len { length rows.old ≡ length basis.now * length pivot.now }
+/// Clears so many rows by what the pivot's equation leaves for them.
+fn clear_rows(rows: &mut [i128], count: usize, pivot: &[i128], entry: Entry) -> Result<(), RowAt>
+    requires len { length rows.old ≡ count * length pivot.now }
+    requires own { entry.own + 1 ≡ length pivot.now }
+    requires place { entry.place < entry.own }
     requires narrow { All IsNarrow rows.old }
     requires narrow_pivot { All IsNarrow pivot.now }
-    requires column { column < length pivot.now }
-    requires apart { numbers pivot.now column ≢ pos 0 }
-    requires places { (i : ℕ) → i < length basis.now → slice_index basis.now i < length pivot.now }
-    requires own { (i : ℕ) → i < length basis.now → pos 0 <ℤ numbers (row_in (length pivot.now) rows.old i) (slice_index basis.now i) }
-    requires other { (i : ℕ) → i < length basis.now → numbers pivot.now (slice_index basis.now i) ≡ pos 0 }
-    requires reduced { (i : ℕ) → i < length basis.now → IsReduced (length pivot.now) (numbers (row_in (length pivot.now) rows.old i)) }
+    requires narrow_entry { IsNarrow entry.number }
+    requires apart { entry.number ≢ pos 0 }
+    requires other { numbers pivot.now entry.own ≡ pos 0 }
+    requires above { (i : ℕ) → i < count → pos 0 <ℤ numbers (row_in (length pivot.now) rows.old i) entry.own }
+    requires reduced { (i : ℕ) → i < count → IsReduced (length pivot.now) (numbers (row_in (length pivot.now) rows.old i)) }
     ensures len { length rows.new ≡ length rows.old }
     ensures narrow { All IsNarrow rows.new }
-    ensures ok { OnOk result ((i : ℕ) → i < length basis.now → IsCleared (length pivot.now) (numbers pivot.now) (numbers (row_in (length pivot.now) rows.old i)) (numbers (row_in (length pivot.now) rows.new i)) column (slice_index basis.now i)) }
-    ensures err { IfErr result (λ place. (place.row < length basis.now) × (place.column < length pivot.now) × IsWidePivot (numbers pivot.now) (numbers (row_in (length pivot.now) rows.old place.row)) column place.column place.wide) }
+    ensures ok { OnOk result ((i : ℕ) → i < count → IsCleared (length pivot.now) entry.number (numbers (row_in (length pivot.now) rows.old i) entry.place) (numbers pivot.now) (numbers (entered entry.place (row_in (length pivot.now) rows.old i))) (numbers (row_in (length pivot.now) rows.new i)) entry.own) }
+    ensures err { IfErr result (λ e. (e.row < count) × (e.at.place < length pivot.now) × IsWideClear entry.number (numbers (row_in (length pivot.now) rows.old e.row) entry.place) (numbers pivot.now) (numbers (entered entry.place (row_in (length pivot.now) rows.old e.row))) e.at.place e.at.wide) }
 {
     let width = pivot.len();
-    for i in 0..basis.len() {
-        let start = i * width;
-        if let Err(at) = clear(
-            &mut rows[start..start + width],
-            pivot,
-            column,
-            basis[i] as usize,
-        ) {
-            return Err(Place {
-                row: i,
-                column: at.column,
-                wide: at.wide,
-            });
+    for row in 0..count {
+        let start = row * width;
+        if let Err(at) = clear(&mut rows[start..start + width], pivot, entry) {
+            return Err(RowAt { row, at });
         }
     }
     Ok(())
 }
 
-/// Puts a column into the basis in the place of the column of equation `row`, in numbers that
-/// stand equation after equation. The basis itself is left to the caller.
+/// Readies the pivot's equation for the others: its own number takes the place where its column
+/// comes in, and nothing takes its own. What stood at the place is the result.
+fn leave(pivot: &mut [i128], place: usize, own: usize) -> i128
+    requires place { place < own }
+    requires own { own < length pivot.old }
+    requires narrow { All IsNarrow pivot.old }
+    ensures left { pivot.new ≡ left place own pivot.old }
+    ensures narrow { All IsNarrow pivot.new }
+    ensures value { result ≡ numbers pivot.old place }
+    ensures narrow_value { IsNarrow result }
+{
+    let number = pivot[place];
+    pivot[place] = pivot[own];
+    pivot[own] = 0;
+    number
+}
+
+/// Gives the pivot's equation its new own number, and makes it positive.
+fn enter(pivot: &mut [i128], own: usize, number: i128)
+    requires own { own < length pivot.old }
+    requires narrow { All IsNarrow pivot.old }
+    requires narrow_number { IsNarrow number }
+    requires apart { number ≢ pos 0 }
+    requires reduced { IsReduced (length pivot.old) (numbers (slice_set pivot.old own number)) }
+    ensures len { length pivot.new ≡ length pivot.old }
+    ensures narrow { All IsNarrow pivot.new }
+    ensures quotient { IsQuotient (length pivot.old) (numbers (slice_set pivot.old own number)) (numbers pivot.new) }
+    ensures own { pos 0 <ℤ numbers pivot.new own }
+    ensures reduced { IsReduced (length pivot.old) (numbers pivot.new) }
+{
+    pivot[own] = number;
+    reduce(pivot, own, 1);
+}
+
+/// Puts the column at a place off the basis into the basis, in the place of the column of equation
+/// `row`, in condensed equations that stand one after the other; each has its own number last, at
+/// place `own`.
 ///
 /// With the entries `p` of the pivot's equation and `a` of another one at the column, and `g` their
 /// greatest common divisor, the other one becomes `p / g` times itself less `a / g` times the
 /// pivot's equation, is divided by its common divisor, and is above zero at its own column.
 pub(crate) fn exchange(
     all: &mut [i128],
-    width: usize,
-    basis: &[u32],
+    count: usize,
+    own: usize,
     row: usize,
-    column: usize,
-) -> Result<(), Place>
-    requires len { length all.old ≡ length basis.now * width }
+    place: usize,
+) -> Result<(), RowAt>
+    requires len { length all.old ≡ count * (own + 1) }
     requires narrow { All IsNarrow all.old }
-    requires solved { IsSolved (length basis.now) width (λ i. slice_index basis.now i) (λ i. numbers (row_in width all.old i)) }
-    requires row { row < length basis.now }
-    requires column { column < width }
-    requires apart { numbers (row_in width all.old row) column ≢ pos 0 }
+    requires row { row < count }
+    requires place { place < own }
+    requires apart { numbers (row_in (own + 1) all.old row) place ≢ pos 0 }
+    requires above { (i : ℕ) → i < count → pos 0 <ℤ numbers (row_in (own + 1) all.old i) own }
+    requires reduced { (i : ℕ) → i < count → IsReduced (own + 1) (numbers (row_in (own + 1) all.old i)) }
     ensures len { length all.new ≡ length all.old }
     ensures narrow { All IsNarrow all.new }
-    ensures ok { OnOk result (IsPivot (length basis.now) width (λ i. slice_index basis.now i) (λ i. numbers (row_in width all.old i)) row column (λ i. numbers (row_in width all.new i))) }
-    ensures err { IfErr result (λ place. (place.row < length basis.now) × (place.row ≢ row) × (place.column < width) × IsWidePivot (numbers (row_in width all.old row)) (numbers (row_in width all.old place.row)) column place.column place.wide) }
+    ensures ok { OnOk result (IsExchange count own row place (row_in (own + 1) all.old) (row_in (own + 1) all.new)) }
+    ensures err { IfErr result (λ e. (e.row < count) × (e.row ≢ row) × (e.at.place < own + 1) × IsWideClear (numbers (row_in (own + 1) all.old row) place) (numbers (row_in (own + 1) all.old e.row) place) (numbers (left place own (row_in (own + 1) all.old row))) (numbers (entered place (row_in (own + 1) all.old e.row))) e.at.place e.at.wide) }
 {
+    let width = own + 1;
     let start = row * width;
     let (above, rest) = all.split_at_mut(start);
     let (pivot, below) = rest.split_at_mut(width);
-    clear_rows(above, pivot, column, &basis[..row])?;
-    if let Err(place) = clear_rows(below, pivot, column, &basis[row + 1..]) {
-        return Err(Place {
-            row: place.row + row + 1,
-            column: place.column,
-            wide: place.wide,
+    let number = leave(pivot, place, own);
+    let entry = Entry { place, own, number };
+    clear_rows(above, row, pivot, entry)?;
+    if let Err(e) = clear_rows(below, count - row - 1, pivot, entry) {
+        return Err(RowAt {
+            row: e.row + row + 1,
+            at: e.at,
         });
     }
-    reduce(pivot, column, 1);
+    enter(pivot, own, number);
     Ok(())
 }

@@ -4,16 +4,25 @@ ghost use Rattle.std.specs.Int.{IsGcd, ◌∣◌};
 ghost use Rattle.zr_base.specs.Steps.{IsNarrow, cross_of};
 ghost use Rattle.zr_simplex.specs.Programs.{numbers};
 ghost use Rattle.zr_basis.specs.BasicForms.{IsReduced};
-ghost use Rattle.zr_simplex.specs.StuckSteps.{AreCoprimeParts, IsWidePivot};
-ghost use Rattle.zr_simplex.specs.RowSteps.{IsCleared, IsGreatest, IsQuotient};
+ghost use Rattle.zr_simplex.specs.StuckSteps.{AreCoprimeParts};
+ghost use Rattle.zr_simplex.specs.RowSteps.{IsCleared, IsGreatest, IsQuotient, IsWideClear, entered};
 
 use zr_base::{Wide, cross, divided, gcd};
 
-/// The column of an equation at which a step was too wide.
+/// The place of an equation at which a step was too wide.
 #[derive(Clone, Copy)]
 pub(crate) struct At {
-    pub column: usize,
+    pub place: usize,
     pub wide: Wide,
+}
+
+/// Where a column comes in, where an equation's own number stands, and the number of the pivot's
+/// equation at the column.
+#[derive(Clone, Copy)]
+pub(crate) struct Entry {
+    pub place: usize,
+    pub own: usize,
+    pub number: i128,
 }
 
 /// The greatest common divisor of two numbers, the first of which isn't zero.
@@ -66,16 +75,16 @@ fn subtract(row: &mut [i128], pivot: &[i128], by: i128, less: i128) -> Result<u1
     ensures ok { OnOk result ((j : ℕ) → j < length row.old → cross_of (by, numbers row.old j) (less, numbers pivot.now j) ≡ Ok (numbers row.new j)) }
     ensures greatest { IfOk result (IsGreatest (length row.old) (numbers row.new)) }
     ensures narrow { All IsNarrow row.new }
-    ensures err { IfErr result (λ at. (at.column < length row.old) × (cross_of (by, numbers row.old at.column) (less, numbers pivot.now at.column) ≡ Err at.wide)) }
+    ensures err { IfErr result (λ at. (at.place < length row.old) × (cross_of (by, numbers row.old at.place) (less, numbers pivot.now at.place) ≡ Err at.wide)) }
 {
     let mut common = 0;
-    for column in 0..row.len() {
-        match difference(by, row[column], less, pivot[column]) {
+    for place in 0..row.len() {
+        match difference(by, row[place], less, pivot[place]) {
             Ok(number) => {
-                row[column] = number;
+                row[place] = number;
                 common = with_number(common, number);
             }
-            Err(wide) => return Err(At { column, wide }),
+            Err(wide) => return Err(At { place, wide }),
         }
     }
     Ok(common)
@@ -145,27 +154,31 @@ pub(crate) fn reduce(row: &mut [i128], own: usize, common: u128)
     }
 }
 
-/// Clears a column of a row by the pivot's row.
-pub(crate) fn clear(row: &mut [i128], pivot: &[i128], column: usize, own: usize) -> Result<(), At>
+/// Clears the number at the place where a column comes in, by what the pivot's equation leaves
+/// for the others.
+pub(crate) fn clear(row: &mut [i128], pivot: &[i128], entry: Entry) -> Result<(), At>
     requires len { length row.old ≡ length pivot.now }
-    requires column { column < length row.old }
-    requires own { own < length row.old }
+    requires own { entry.own < length row.old }
+    requires place { entry.place < entry.own }
     requires narrow { All IsNarrow row.old }
     requires narrow_pivot { All IsNarrow pivot.now }
-    requires above { pos 0 <ℤ numbers row.old own }
+    requires narrow_entry { IsNarrow entry.number }
+    requires above { pos 0 <ℤ numbers row.old entry.own }
     requires reduced { IsReduced (length row.old) (numbers row.old) }
-    requires apart { numbers pivot.now column ≢ pos 0 }
-    requires other { numbers pivot.now own ≡ pos 0 }
+    requires apart { entry.number ≢ pos 0 }
+    requires other { numbers pivot.now entry.own ≡ pos 0 }
     ensures len { length row.new ≡ length row.old }
-    ensures ok { OnOk result (IsCleared (length row.old) (numbers pivot.now) (numbers row.old) (numbers row.new) column own) }
+    ensures ok { OnOk result (IsCleared (length row.old) entry.number (numbers row.old entry.place) (numbers pivot.now) (numbers (entered entry.place row.old)) (numbers row.new) entry.own) }
     ensures narrow { All IsNarrow row.new }
-    ensures err { IfErr result (λ at. (at.column < length row.old) × IsWidePivot (numbers pivot.now) (numbers row.old) column at.column at.wide) }
+    ensures err { IfErr result (λ at. (at.place < length row.old) × IsWideClear entry.number (numbers row.old entry.place) (numbers pivot.now) (numbers (entered entry.place row.old)) at.place at.wide) }
 {
-    if row[column] == 0 {
+    let number = row[entry.place];
+    if number == 0 {
         return Ok(());
     }
-    let (by, less) = coprime_parts(pivot[column], row[column]);
+    let (by, less) = coprime_parts(entry.number, number);
+    row[entry.place] = 0;
     let common = subtract(row, pivot, by, less)?;
-    reduce(row, own, common);
+    reduce(row, entry.own, common);
     Ok(())
 }

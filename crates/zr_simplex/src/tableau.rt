@@ -1,47 +1,63 @@
-ghost use Rattle.std.specs.Prelude.{◌≡◌, ◌≢◌, ◌<◌, ◌+◌, ◌*◌, pos, length, slice_set, IfErr, OnOk, OnErr};
+ghost use Rattle.std.specs.Prelude.{◌≡◌, ◌≢◌, ◌<◌, ◌+◌, ◌*◌, ℕ, pos, length, slice_set, IfErr, OnOk, OnErr};
 ghost use Rattle.std.specs.List.{All};
 ghost use Rattle.zr_base.specs.Steps.{IsNarrow};
 ghost use Rattle.zr_simplex.specs.StuckSteps.{IsWidePivot};
 ghost use Rattle.zr_simplex.specs.RowSteps.{IsPivot, IsSolved};
 
+use crate::columns::{Column, exchange_columns, made_column, place_of};
 use crate::pivot::{Place, exchange};
 use std::marker::Model;
 
-/// A basis, and an equation of `width` numbers for each of its columns, in one list.
+/// A basis, and for each of its columns an equation.
+///
+/// The equations are condensed, and stand one after the other: of each the numbers at the columns
+/// off the basis, and at the right side, and then its number at its own column. What is left out is
+/// zero.
 #[derive(Drop)]
 pub(crate) struct Tableau {
     basis: Vec<u32>,
-    width: usize,
+    free: Vec<u32>,
+    columns: Vec<Column>,
     numbers: Vec<i128>,
 }
 
 impl Model for Tableau {
-    ghost use Rattle.std.specs.Prelude.{◌≡◌, ◌*◌, length};
+    ghost use Rattle.std.specs.Prelude.{◌≡◌, ◌+◌, ◌*◌, length};
     ghost use Rattle.std.specs.List.{All};
     ghost use Rattle.zr_base.specs.Steps.{IsNarrow};
-    ghost use Rattle.zr_simplex.specs.Tableaus.{Equations, rows_in};
+    ghost use Rattle.zr_simplex.specs.Tableaus.{AreColumns, Equations};
 
     ghost Value = { Equations };
 
-    ghost view = { λ t. record { basis = t.basis.items; width = t.width; rows = rows_in (length t.basis.items) t.width t.numbers.items } };
+    ghost view = { λ t. record { basis = t.basis.items; free = t.free.items; columns = t.columns.items; width = length t.columns.items; numbers = t.numbers.items } };
 
-    ghost invariant = { λ t. (length t.numbers.items ≡ length t.basis.items * t.width) × All IsNarrow t.numbers.items };
+    ghost invariant = { λ t. (length t.numbers.items ≡ length t.basis.items * (length t.free.items + 1)) × All IsNarrow t.numbers.items × AreColumns t.basis.items t.free.items t.columns.items };
 }
 
 impl Tableau {
-    ghost use Rattle.zr_simplex.specs.Tableaus.{Equations, basis_of, form_of, rows_in};
+    ghost use Rattle.zr_simplex.specs.Tableaus.{AreColumns, IsPartition, basis_of, form_of, free_of};
 
-    /// The tableau of a basis and of its equations' numbers.
-    pub(crate) fn new(basis: Vec<u32>, width: usize, numbers: Vec<i128>) -> Tableau
-        requires len { length numbers.items ≡ length basis.items * width }
+    /// The tableau of a basis, of the columns off it, and of its condensed equations.
+    pub(crate) fn new(
+        basis: Vec<u32>,
+        free: Vec<u32>,
+        columns: Vec<Column>,
+        numbers: Vec<i128>,
+    ) -> Tableau
+        requires len { length numbers.items ≡ length basis.items * (length free.items + 1) }
         requires narrow { All IsNarrow numbers.items }
+        requires columns { AreColumns basis.items free.items columns.items }
         ensures basis { result.basis ≡ basis.items }
-        ensures width { result.width ≡ width }
-        ensures rows { result.rows ≡ rows_in (length basis.items) width numbers.items }
+        ensures free { result.free ≡ free.items }
+        ensures columns { result.columns ≡ columns.items }
+        ensures width { result.width ≡ length columns.items }
+        ensures numbers { result.numbers ≡ numbers.items }
+        ensures partition { IsPartition result.width result.basis result.free }
     {
         Tableau {
             basis,
-            width,
+            free,
+            columns,
             numbers,
         }
     }
@@ -53,7 +69,11 @@ impl Tableau {
         ensures value { result ≡ form_of self.now row column }
         ensures narrow { IsNarrow result }
     {
-        self.numbers[row * self.width + column]
+        let own = self.free.len();
+        match place_of(self.columns[column], row, own) {
+            Some(place) => self.numbers[row * (own + 1) + place],
+            None => 0,
+        }
     }
 
     /// The column of an equation.
@@ -64,6 +84,14 @@ impl Tableau {
         self.basis[row] as usize
     }
 
+    /// The column at a place off the basis.
+    pub(crate) fn free(&self, place: usize) -> usize
+        requires { place < length self.now.free }
+        ensures { result ≡ free_of self.now place }
+    {
+        self.free[place] as usize
+    }
+
     /// The basis.
     pub(crate) fn into_basis(self) -> Vec<u32>
         ensures { result.items ≡ self.basis }
@@ -71,21 +99,48 @@ impl Tableau {
         self.basis
     }
 
-    /// Puts a column into the basis in the place of the column of equation `row`.
+    /// Puts a column into the basis in the place of the column of equation `row`. What is in the
+    /// basis already stays.
     pub(crate) fn pivot(&mut self, row: usize, column: usize) -> Result<(), Place>
         requires solved { IsSolved (length self.old.basis) self.old.width (basis_of self.old) (form_of self.old) }
         requires row { row < length self.old.basis }
         requires column { column < self.old.width }
-        requires narrow { column < 4294967296 }
+        requires narrow { row < 4294967296 }
         requires apart { form_of self.old row column ≢ pos 0 }
         ensures width { self.new.width ≡ self.old.width }
         ensures ok { OnOk result (IsPivot (length self.old.basis) self.old.width (basis_of self.old) (form_of self.old) row column (form_of self.new)) }
         ensures basis { OnOk result (self.new.basis ≡ slice_set self.old.basis row column) }
+        ensures free { OnOk result ((length self.new.free ≡ length self.old.free) × ((k : ℕ) → k < length self.old.free → free_of self.old k ≢ column → free_of self.new k ≡ free_of self.old k)) }
+        ensures partition { IsPartition self.new.width self.new.basis self.new.free }
         ensures unchanged { OnErr result (self.new.basis ≡ self.old.basis) }
         ensures err { IfErr result (λ place. (place.row < length self.old.basis) × (place.row ≢ row) × (place.column < self.old.width) × IsWidePivot (form_of self.old row) (form_of self.old place.row) column place.column place.wide) }
     {
-        exchange(&mut self.numbers, self.width, &self.basis, row, column)?;
-        self.basis[row] = column as u32;
-        Ok(())
+        let Column::Free(place) = self.columns[column] else {
+            return Ok(());
+        };
+        let place = place as usize;
+        match exchange(
+            &mut self.numbers,
+            self.basis.len(),
+            self.free.len(),
+            row,
+            place,
+        ) {
+            Ok(()) => {
+                exchange_columns(
+                    &mut self.basis,
+                    &mut self.free,
+                    &mut self.columns,
+                    row,
+                    place,
+                );
+                Ok(())
+            }
+            Err(e) => Err(Place {
+                row: e.row,
+                column: made_column(&self.basis, &self.free, row, place, e),
+                wide: e.at.wide,
+            }),
+        }
     }
 }

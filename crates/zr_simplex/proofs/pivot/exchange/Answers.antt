@@ -1,114 +1,117 @@
-use Rattle.std.proofs.Common.{◌≡◌, ◌<◌, ◌+◌, ◌*◌, ◌-◌, ℕ, ℤ, arith, ap, ◌∙◌, length, List, ◌++◌}
-use Rattle.std.proofs.lemmas.List.Elements.{All-append, All-take, All-drop}
+use Rattle.std.proofs.Common.{rules, ◌≡◌, ◌<◌, ◌+◌, ◌*◌, ◌-◌, ℕ, ℤ, arith, ap, ◌∙◌, length, List, ◌++◌, FitsSigned}
+use Rattle.std.proofs.lemmas.Int.{to_z-of_z}
+use Rattle.std.proofs.lemmas.List.Elements.{All-append, All-drop}
 use Rattle.std.proofs.lemmas.Result.{err_from_is_err_and}
+use Rattle.std.specs.Int.{w128}
 use Rattle.std.specs.List.{All}
 use Rattle.zr_base.specs.Steps.{IsNarrow}
-use Rattle.zr_simplex.specs.Programs.{numbers}
-use Rattle.zr_simplex.proofs.Divide.{greatest_one}
-use Rattle.zr_simplex.proofs.Turn.{IsSplit, above_own, above_reduced, after-length, after-inside, at_above, at_below, at_pivot, before-length, below_other, below_own, below_places, below_reduced, pivot_made, pivot_reduced}
+use Rattle.zr_simplex.proofs.Swaps.{left-length, swapped_reduced}
+use Rattle.zr_simplex.proofs.Turn.{IsSplit, at_above, at_below, at_pivot, exchange_made}
 use Rattle.zr_simplex.proofs.pivot.exchange.Goals as goal
-use Rattle.zr_simplex.proofs.pivot.exchange.Goals.{After-split_at_mut-pivot}
-
-split : (c : After-split_at_mut-pivot) → IsSplit c.args.width c.args.row c.args.basis.now c.args.all.now c.split_at_mut-above.result.0.now c.split_at_mut-pivot.result.0.now c.split_at_mut-pivot.result.1.now
-split c = record {
-  inside = c.requires.row;
-  long = c.split_at_mut-above.ensures.front_len;
-  one = c.split_at_mut-pivot.ensures.front_len;
-  parts = c.split_at_mut-above.ensures.value ∙ ap (λ x. c.split_at_mut-above.result.0.now ++ x) c.split_at_mut-pivot.ensures.value;
-  solved = c.requires.solved;
-}
-
-pub clear_rows-requires-clause-own : goal.clear_rows-requires-clause-own
-clear_rows-requires-clause-own c =
-    let at = goal.at.clear_rows-requires-clause-own c in
-    rw c.split_at_mut-pivot.ensures.front_len (above_own (split at.After-split_at_mut-pivot))
-
-pub clear_rows-requires-clause-reduced : goal.clear_rows-requires-clause-reduced
-clear_rows-requires-clause-reduced c =
-    let at = goal.at.clear_rows-requires-clause-reduced c in
-    rw c.split_at_mut-pivot.ensures.front_len (above_reduced (split at.After-split_at_mut-pivot))
+use Rattle.zr_simplex.proofs.pivot.exchange.Goals.{After-leave-number}
 
 narrow_parts : (above pivot below : List ℤ) → All IsNarrow above → All IsNarrow pivot → All IsNarrow below → All IsNarrow (above ++ (pivot ++ below))
 narrow_parts above pivot below one two three =
     All-append IsNarrow above (pivot ++ below) one (All-append IsNarrow pivot below two three)
 
-module _ (c : After-split_at_mut-pivot) where
-  rest_narrow : All IsNarrow c.split_at_mut-above.result.1.now
-  rest_narrow = rw c.split_at_mut-above.ensures.back (All-drop IsNarrow (c.args.row * c.args.width) c.args.all.now c.requires.narrow)
+module _ (c : After-leave-number) where
+  split : IsSplit (c.args.own + 1) c.args.row c.args.all.now c.split_at_mut-above.result.0.now c.split_at_mut-pivot.result.0.now c.split_at_mut-pivot.result.1.now
+  split = record {
+    long = c.split_at_mut-above.ensures.front_len;
+    one = c.split_at_mut-pivot.ensures.front_len;
+    parts = c.split_at_mut-above.ensures.value ∙ ap (λ x. c.split_at_mut-above.result.0.now ++ x) c.split_at_mut-pivot.ensures.value;
+  }
 
-  pivot_narrow : All IsNarrow c.split_at_mut-pivot.result.0.now
-  pivot_narrow = rw c.split_at_mut-pivot.ensures.front (All-take IsNarrow c.args.width c.split_at_mut-above.result.1.now rest_narrow)
+  has_own : c.args.own < length c.split_at_mut-pivot.result.0.now
+  has_own = omega (arith, c.split_at_mut-pivot.ensures.front_len)
+
+  long : length c.leave-number.new.pivot ≡ c.args.own + 1
+  long =
+      ap length c.leave-number.ensures.left ∙ left-length c.args.place c.args.own c.split_at_mut-pivot.result.0.now c.requires.place has_own ∙ c.split_at_mut-pivot.ensures.front_len
 
   below_narrow : All IsNarrow c.split_at_mut-pivot.result.1.now
-  below_narrow = rw c.split_at_mut-pivot.ensures.back (All-drop IsNarrow c.args.width c.split_at_mut-above.result.1.now rest_narrow)
+  below_narrow =
+      let rest = All-drop IsNarrow (c.args.row * (c.args.own + 1)) c.args.all.now c.requires.narrow in
+      rw c.split_at_mut-pivot.ensures.back (All-drop IsNarrow (c.args.own + 1) c.split_at_mut-above.result.1.now (rw c.split_at_mut-above.ensures.back rest))
+
+pub clear_rows-requires-clause-above : goal.clear_rows-requires-clause-above
+clear_rows-requires-clause-above c i h =
+    let at = (goal.at.clear_rows-requires-clause-above c).After-leave-number in
+    rw (long at, ← at_above (split at) i h) (c.requires.above i (omega (arith, h, c.requires.row)))
+
+pub clear_rows-requires-clause-reduced : goal.clear_rows-requires-clause-reduced
+clear_rows-requires-clause-reduced c i h =
+    let at = (goal.at.clear_rows-requires-clause-reduced c).After-leave-number in
+    rw (long at, ← at_above (split at) i h) (c.requires.reduced i (omega (arith, h, c.requires.row)))
 
 pub returns-in_err-clear_rows-clause-narrow : goal.returns-in_err-clear_rows-clause-narrow
 returns-in_err-clear_rows-clause-narrow c =
-    let at = goal.at.returns-in_err-clear_rows-clause-narrow c in
-    narrow_parts c.clear_rows.new.rows c.split_at_mut-pivot.result.0.now c.split_at_mut-pivot.result.1.now c.clear_rows.ensures.narrow (pivot_narrow at.After-split_at_mut-pivot) (below_narrow at.After-split_at_mut-pivot)
+    let at = (goal.at.returns-in_err-clear_rows-clause-narrow c).After-leave-number in
+    narrow_parts c.clear_rows.new.rows c.leave-number.new.pivot c.split_at_mut-pivot.result.1.now c.clear_rows.ensures.narrow c.leave-number.ensures.narrow (below_narrow at)
 
 pub returns-in_err-clear_rows-clause-err : goal.returns-in_err-clear_rows-clause-err
 returns-in_err-clear_rows-clause-err c =
-    let at = goal.at.returns-in_err-clear_rows-clause-err c in
-    let s = split at.After-split_at_mut-pivot in
+    let at = (goal.at.returns-in_err-clear_rows-clause-err c).After-leave-number in
+    let s = split at in
+    let n : FitsSigned w128 c.leave-number.result = search rules in
     let p = err_from_is_err_and c.from_residual.result c.from_residual.ensures.1 in
-    let e = rw c.split_at_mut-pivot.ensures.front_len at c.in_err-clear_rows.ensures.err in
-    let q : c.in_err-clear_rows.field-0.0.row < c.args.row = omega (arith, e.0, before-length c.args.row c.args.basis.now c.requires.row) in
-    rw (p.1, p.2, at_pivot s, at_above s c.in_err-clear_rows.field-0.0.row q) (omega (arith, q, c.requires.row), λ z. omega (arith, z, q), e.1, e.2)
+    let e = rw (long at, c.leave-number.ensures.left, c.leave-number.ensures.value) at (simp to_z-of_z at c.in_err-clear_rows.ensures.err) in
+    let row = c.in_err-clear_rows.field-0.0.row in
+    rw (p.1, p.2, at_pivot s, at_above s row e.0) (omega (arith, e.0, c.requires.row), λ z. omega (arith, z, e.0), e.1, e.2)
 
 rest : (k row w x b : ℕ) → b ≡ k + (row + 1) → x + w + row * w ≡ b * w → x ≡ k * w
 rest k row w x b e f = let g = rw e at f in omega (arith, g)
 
 pub clear_rows-requires-2-clause-len : goal.clear_rows-requires-2-clause-len
 clear_rows-requires-2-clause-len c =
-    let b = length c.args.basis.now in
-    rw (c.split_at_mut-pivot.ensures.front_len, after-length c.args.row c.args.basis.now c.requires.row) (rest (b - (c.args.row + 1)) c.args.row c.args.width (length c.split_at_mut-pivot.result.1.now) b (omega (arith, c.requires.row)) (omega (arith, c.split_at_mut-pivot.ensures.back_len, c.split_at_mut-above.ensures.back_len, c.requires.len)))
+    let at = (goal.at.clear_rows-requires-2-clause-len c).After-leave-number in
+    let b = c.args.count in
+    let w = c.args.own + 1 in
+    rw (long at) (rest (b - c.args.row - 1) c.args.row w (length c.split_at_mut-pivot.result.1.now) b (omega (arith, c.requires.row)) (omega (arith, c.split_at_mut-pivot.ensures.back_len, c.split_at_mut-above.ensures.back_len, c.requires.len)))
 
-pub clear_rows-requires-2-clause-places : goal.clear_rows-requires-2-clause-places
-clear_rows-requires-2-clause-places c =
-    let at = goal.at.clear_rows-requires-2-clause-places c in
-    rw c.split_at_mut-pivot.ensures.front_len (below_places (split at.After-split_at_mut-pivot))
-
-pub clear_rows-requires-2-clause-own : goal.clear_rows-requires-2-clause-own
-clear_rows-requires-2-clause-own c =
-    let at = goal.at.clear_rows-requires-2-clause-own c in
-    rw c.split_at_mut-pivot.ensures.front_len (below_own (split at.After-split_at_mut-pivot))
+pub clear_rows-requires-2-clause-above : goal.clear_rows-requires-2-clause-above
+clear_rows-requires-2-clause-above c i h =
+    let at = (goal.at.clear_rows-requires-2-clause-above c).After-leave-number in
+    rw (long at, ← at_below (split at) i) (c.requires.above (c.args.row + (1 + i)) (omega (arith, h)))
 
 pub clear_rows-requires-2-clause-reduced : goal.clear_rows-requires-2-clause-reduced
-clear_rows-requires-2-clause-reduced c =
-    let at = goal.at.clear_rows-requires-2-clause-reduced c in
-    rw c.split_at_mut-pivot.ensures.front_len (below_reduced (split at.After-split_at_mut-pivot))
-
-pub clear_rows-requires-2-clause-other : goal.clear_rows-requires-2-clause-other
-clear_rows-requires-2-clause-other c =
-    let at = goal.at.clear_rows-requires-2-clause-other c in
-    below_other (split at.After-split_at_mut-pivot)
+clear_rows-requires-2-clause-reduced c i h =
+    let at = (goal.at.clear_rows-requires-2-clause-reduced c).After-leave-number in
+    rw (long at, ← at_below (split at) i) (c.requires.reduced (c.args.row + (1 + i)) (omega (arith, h)))
 
 pub returns-in-Err-clause-narrow : goal.returns-in-Err-clause-narrow
 returns-in-Err-clause-narrow c =
-    let at = goal.at.returns-in-Err-clause-narrow c in
-    narrow_parts c.clear_rows.new.rows c.split_at_mut-pivot.result.0.now c.clear_rows-2.new.rows c.clear_rows.ensures.narrow (pivot_narrow at.After-split_at_mut-pivot) c.clear_rows-2.ensures.narrow
+    narrow_parts c.clear_rows.new.rows c.leave-number.new.pivot c.clear_rows-2.new.rows c.clear_rows.ensures.narrow c.leave-number.ensures.narrow c.clear_rows-2.ensures.narrow
 
 pub returns-in-Err-clause-err : goal.returns-in-Err-clause-err
 returns-in-Err-clause-err c =
-    let at = goal.at.returns-in-Err-clause-err c in
-    let s = split at.After-split_at_mut-pivot in
-    let e = rw c.split_at_mut-pivot.ensures.front_len at c.in-Err.ensures.err in
-    let n : c.in-Err.place.row + c.args.row + 1 ≡ c.args.row + (1 + c.in-Err.place.row) = omega arith in
-    rw (n, at_pivot s, at_below s c.in-Err.place.row) (after-inside c.args.row c.args.basis.now c.requires.row c.in-Err.place.row e.0, λ z. omega (arith, z), e.1, e.2)
+    let at = (goal.at.returns-in-Err-clause-err c).After-leave-number in
+    let s = split at in
+    let n : FitsSigned w128 c.leave-number.result = search rules in
+    let e = rw (long at, c.leave-number.ensures.left, c.leave-number.ensures.value) at (simp to_z-of_z at c.in-Err.ensures.err) in
+    let m : c.in-Err.e.row + c.args.row + 1 ≡ c.args.row + (1 + c.in-Err.e.row) = omega arith in
+    rw (m, at_pivot s, at_below s c.in-Err.e.row) (omega (arith, e.0), λ z. omega (arith, z), e.1, e.2)
 
-pub reduce-requires-clause-greatest : goal.reduce-requires-clause-greatest
-reduce-requires-clause-greatest c =
-    let at = goal.at.reduce-requires-clause-greatest c in
-    greatest_one (length c.split_at_mut-pivot.result.0.now) (numbers c.split_at_mut-pivot.result.0.now) (rw c.split_at_mut-pivot.ensures.front_len (pivot_reduced (split at.After-split_at_mut-pivot)))
+pub enter-requires-clause-reduced : goal.enter-requires-clause-reduced
+enter-requires-clause-reduced c =
+    let at = (goal.at.enter-requires-clause-reduced c).After-leave-number in
+    let n : FitsSigned w128 c.leave-number.result = search rules in
+    let xs = c.split_at_mut-pivot.result.0.now in
+    let whole = rw (at_pivot (split at)) at (c.requires.reduced c.args.row c.requires.row) in
+    let swapped = swapped_reduced c.args.place c.args.own xs c.requires.place (has_own at) whole in
+    simp to_z-of_z (rw (long at, c.leave-number.ensures.left, c.leave-number.ensures.value) swapped)
 
 pub returns-clause-narrow : goal.returns-clause-narrow
 returns-clause-narrow c =
-    narrow_parts c.clear_rows.new.rows c.reduce.new.row c.clear_rows-2.new.rows c.clear_rows.ensures.narrow c.reduce.ensures.narrow c.clear_rows-2.ensures.narrow
+    narrow_parts c.clear_rows.new.rows c.enter.new.pivot c.clear_rows-2.new.rows c.clear_rows.ensures.narrow c.enter.ensures.narrow c.clear_rows-2.ensures.narrow
 
 pub returns-clause-ok : goal.returns-clause-ok
 returns-clause-ok c =
-    let at = goal.at.returns-clause-ok c in
-    let s = split at.After-split_at_mut-pivot in
-    let one = c.split_at_mut-pivot.ensures.front_len in
-    pivot_made s c.args.column c.clear_rows.new.rows c.reduce.new.row c.clear_rows-2.new.rows (c.clear_rows.ensures.len ∙ c.split_at_mut-above.ensures.front_len) (c.reduce.ensures.len ∙ one) (rw one at c.reduce.ensures.quotient) c.reduce.ensures.own (rw one at c.reduce.ensures.reduced) (rw one at c.in_ok-clear_rows.ensures.ok) (rw one at c.in_default.ensures.ok)
+    let at = (goal.at.returns-clause-ok c).After-leave-number in
+    let n : FitsSigned w128 c.leave-number.result = search rules in
+    let is = c.leave-number.ensures in
+    let first = rw (long at, is.left, is.value) at (simp to_z-of_z at c.in_ok-clear_rows.ensures.ok) in
+    let second = rw (long at, is.left, is.value) at (simp to_z-of_z at c.in_default.ensures.ok) in
+    let quotient = rw (long at, is.left, is.value) at (simp to_z-of_z at c.enter.ensures.quotient) in
+    let reduced = rw (long at) at c.enter.ensures.reduced in
+    exchange_made c.args.count c.args.own c.args.row c.args.place (split at) c.clear_rows.new.rows c.enter.new.pivot c.clear_rows-2.new.rows (c.clear_rows.ensures.len ∙ c.split_at_mut-above.ensures.front_len) (c.enter.ensures.len ∙ long at) quotient c.enter.ensures.own reduced first second

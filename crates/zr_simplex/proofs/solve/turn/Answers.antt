@@ -1,15 +1,13 @@
-use Rattle.std.proofs.Common.{◌≡◌, length, set, Ok, Err}
+use Rattle.std.proofs.Common.{Ok, Err}
 use Rattle.std.specs.Prelude.{Result, OnOk}
 use Rattle.zr_simplex.specs.Programs.{program_of}
-use Rattle.zr_simplex.specs.RowSteps.{IsPivot}
-use Rattle.zr_simplex.specs.Tableaus.{basis_of, form_of}
-use Rattle.zr_simplex.specs.Dues.{IsTableau}
+use Rattle.zr_simplex.proofs.Kept.{solved_of}
 use Rattle.zr_simplex.proofs.Turned.{turned}
 use Rattle.zr_simplex.proofs.solve.turn.Goals as goal
 
-both : {T E A B C : Type 0} (r : Result T E) → (A → B → C) → OnOk r A → OnOk r B → OnOk r C
-both (Ok x) f a b = f a b
-both (Err e) f a b = tt
+each : {T E A B C D : Type 0} (r : Result T E) → (A → B → C → D) → OnOk r A → OnOk r B → OnOk r C → OnOk r D
+each (Ok x) f a b c = f a b c
+each (Err e) f a b c = tt
 
 pub returns-clause-kept : goal.returns-clause-kept
 returns-clause-kept c =
@@ -17,5 +15,8 @@ returns-clause-kept c =
     let t = c.args.tableau.now in
     let new = c.pivot.new.self in
     let kept = c.requires.kept in
-    let tableau : IsPivot (length t.basis) t.width (basis_of t) (form_of t) c.args.row c.args.column (form_of new) → new.basis ≡ set t.basis c.args.row c.args.column → IsTableau p new = turned p t new c.args.row c.args.column kept c.requires.row c.requires.column c.pivot.ensures.width in
-    both c.pivot.result tableau c.pivot.ensures.ok c.pivot.ensures.basis
+    let made = c.pivot.ensures in
+    each c.pivot.result (λ pivot basis free. turned p t new c.args.row c.args.column kept c.requires.row c.requires.column made.width pivot basis made.partition free) made.ok made.basis made.free
+
+pub pivot-requires-clause-solved : goal.pivot-requires-clause-solved
+pivot-requires-clause-solved c = solved_of (program_of c.args.lp.now) c.args.tableau.now c.requires.kept

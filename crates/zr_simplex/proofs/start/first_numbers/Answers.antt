@@ -28,7 +28,7 @@ loop-row-preserved c =
     rw (span i w, new) (record {
       len = put_length w xs ys i len inside ∙ size;
       narrow = narrow_put w xs ys i len inside (rw value inv.narrow) c.write_equation.ensures.narrow;
-      done = λ k h. ⊎_elim (λ (s : k ≡ i). rw (s, row_in-here w xs ys i len inside) c.write_equation.ensures.start) (λ (a : k ≢ i). rw (row_in-other w xs ys i len inside k a, value) (inv.done k (omega (arith, h, a)))) (cases_eq k i);
+      done = λ k h. ⊎_elim (λ (s : k ≡ i). rw (s, row_in-here w xs ys i len inside) c.write_equation.ensures.first) (λ (a : k ≢ i). rw (row_in-other w xs ys i len inside k a, value) (inv.done k (omega (arith, h, a)))) (cases_eq k i);
       zeros = λ k h q. rw (row_in-other w xs ys i len inside k (λ s. omega (arith, s, h)), value) (inv.zeros k (omega (arith, h)) q);
     })
 
@@ -69,4 +69,4 @@ returns-clause-rows c r h =
 pub returns-clause-value : goal.returns-clause-value
 returns-clause-value c =
     let at = (goal.at.returns-clause-value c).After-write_value in
-    rw (count at, tail at, new at, row_in-here c.args.width c.deref_mut-2.result.now c.write_value.new.places (length c.args.lp.now.rows.items) (wide at) (inside at)) c.write_value.ensures.start
+    rw (count at, tail at, new at, row_in-here c.args.width c.deref_mut-2.result.now c.write_value.new.places (length c.args.lp.now.rows.items) (wide at) (inside at)) c.write_value.ensures.first
