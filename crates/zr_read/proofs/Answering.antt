@@ -8,7 +8,7 @@ use Rattle.zr_read.specs.declared.fault.GameError.{GameError}
 use Rattle.zr_read.specs.declared.fault.GameError.TheVariants.{At, Unbuilt, NoMemory}
 use Rattle.zr_read.specs.Names.{IsNamed}
 use Rattle.zr_read.specs.Texts.{is_unbuilt, IsAnswer, IsAnswerIf, IsTextOf, StandsFor, IsRefusal}
-use Rattle.zr_read.proofs.Sound.{game_is_named}
+use Rattle.zr_read.proofs.Sound.{game_is_right}
 
 module _ (bytes : List ℕ) (value : Data) (text : IsTextOf bytes value) where
   game_by : (b : Bool) → is_unbuilt value ≡ b → (g : Game) → IsAnswerIf b value (Ok g) → StandsFor bytes (game_of g)
@@ -29,7 +29,7 @@ module _ (bytes : List ℕ) (value : Data) (text : IsTextOf bytes value) where
   answers_game (Err e) h = tt
 
   pub answers_names : (r : Result Game GameError) → IsAnswer value r → IfOk r (λ g. IsNamed (game_of g))
-  answers_names (Ok g) h = let s = game_by (is_unbuilt value) refl g h in game_is_named s.value (game_of g) s.content
+  answers_names (Ok g) h = let s = game_by (is_unbuilt value) refl g h in (game_is_right s.value (game_of g) s.content).1
   answers_names (Err e) h = tt
 
   -- or they have the fault, or are not read yet

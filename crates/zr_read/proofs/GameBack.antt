@@ -11,17 +11,18 @@ use Rattle.serde_json.specs.Data.{array}
 use Rattle.serde_json.proofs.OnLiterals.{serde_json_on_literals}
 use Rattle.zr_game.specs.declared.player.CrossTerm.{CrossTerm}
 use Rattle.zr_game.specs.Players.{Name, PlayerOf, GameOf}
-use Rattle.zr_game.specs.Forms.{IsVarForm, IsRowForm, AreTerms, IsCrossForm, IsGame}
+use Rattle.zr_game.specs.Forms.{IsRowForm, AreTerms, IsCrossForm, IsGame}
 use Rattle.zr_read.specs.Faults.{◌>>=◌, under}
 use Rattle.zr_read.specs.Values.{needed, optional, each, count}
 use Rattle.zr_read.specs.Names.{new_name_in, names_at, player_name, var_name, AreNames, IsNamed}
 use Rattle.zr_read.specs.Parts.{variables_in, rows_in, terms_in, cross_in}
 use Rattle.zr_read.specs.Passes.{HeadingOf, BodyOf, heading_name, variable_names, heading_in, add_heading, body_in, add_body, players_from, both_passes, players_in, format_in, game_in}
-use Rattle.zr_read.specs.Texts.{is_unbuilt, is_any_unbuilt, is_unbuilt_player, IsTextOf, StandsFor}
+use Rattle.zr_read.specs.Texts.{is_unbuilt, is_any_unbuilt, is_unbuilt_player, IsTextOf, StandsFor, IsBuilt}
 use Rattle.zr_read.specs.Canonical.{player_data, players_data, player_var_names, game_data}
 use Rattle.zr_read.proofs.Lists.{IsNewName, no_names, length-push}
 use Rattle.zr_read.proofs.Ordered.{IsKey, key_of, AreCross}
-use Rattle.zr_read.proofs.PartsBack.{bind_to, new_name_back, new_in_row, variables_back, terms_back, rows_back, leb_is}
+use Rattle.zr_read.proofs.Sound.{all_at}
+use Rattle.zr_read.proofs.PartsBack.{IsFirstVar, bind_to, new_name_back, new_in_row, variables_back, terms_back, rows_back, leb_is}
 use Rattle.zr_read.proofs.CrossBack.{cross_back}
 
 abbrev heading_part : PlayerOf → HeadingOf
@@ -34,7 +35,7 @@ body_part p = record { rows = p.rows; cost = p.cost; cross = p.cross }
 pub record HasVars (p : PlayerOf) : Type 0 where
   pub some : 1 ≤ length p.vars
   pub few : length p.vars ≤ 64
-  pub forms : All IsVarForm p.vars
+  pub forms : All IsFirstVar p.vars
   pub names : AreNames (map var_name p.vars)
 
 -- rows and costs that can be read, of player i among these names
@@ -100,11 +101,14 @@ variables_of_parts : (ps : List PlayerOf) → map variable_names (map heading_pa
 variables_of_parts [] = refl
 variables_of_parts (p ∷ ps) = ap (λ names. player_var_names p ∷ names) (variables_of_parts ps)
 
-parts_together : (ps : List PlayerOf) → All (λ p. p.pairs ≡ []) ps → players_from (map heading_part ps) (map body_part ps) ≡ ps
-parts_together [] none = refl
-parts_together (p ∷ ps) none =
-    ap (λ pairs. record p { pairs = pairs } ∷ players_from (map heading_part ps) (map body_part ps)) (sym (none 0 p (omega arith)))
-    ∙ ap (λ rest. p ∷ rest) (parts_together ps (λ k d below. none (suc k) d (omega (arith, below))))
+parts_together : (ps : List PlayerOf) → All IsBuilt ps → players_from (map heading_part ps) (map body_part ps) ≡ ps
+parts_together [] built = refl
+parts_together (p ∷ ps) built =
+    let is = built 0 p (omega arith) in
+    let rest = players_from (map heading_part ps) (map body_part ps) in
+    ap (λ pairs. record p { pairs = pairs; others = [] } ∷ rest) (sym is.pairs)
+    ∙ ap (λ others. record p { others = others } ∷ rest) (sym is.others)
+    ∙ ap (λ rest. p ∷ rest) (parts_together ps (λ k d below. built (suc k) d (omega (arith, below))))
 
 module _ (players : List Name) (variables : List (List Name)) where
   -- the first pass
@@ -150,7 +154,7 @@ variables_of game = map player_var_names game
 
 -- a player without anything
 abbrev nobody : PlayerOf
-nobody = record { name = []; vars = []; rows = []; pairs = []; cost = []; cross = [] }
+nobody = record { name = []; vars = []; rows = []; pairs = []; cost = []; cross = []; others = [] }
 
 le_from_test : (m n : ℕ) → nat_le m n ≡ true → m ≤ n
 le_from_test m n h = grind (arith, nat_tests)
@@ -175,7 +179,7 @@ key_back game i columns t e f =
       var = subst (λ n. t.var < n) (columns_of game t.player (get_or game t.player nobody) at) (f.var (get_or game t.player nobody) at);
     }
 
-module _ (game : GameOf) (form : IsGame game) (named : IsNamed game) where
+module _ (game : GameOf) (form : IsGame game) (named : IsNamed game) (built : All IsBuilt game) where
   var_names : (k : ℕ) (p : PlayerOf) → slice_get game k ≡ Some p → AreNames (map var_name p.vars)
   var_names k p at = subst (λ q. AreNames (map var_name q.vars)) (get_or_from_slice_get game k p p at) (named.variables k p (slice_get_within game k p at))
 
@@ -192,7 +196,15 @@ module _ (game : GameOf) (form : IsGame game) (named : IsNamed game) where
           subst AreNames (sym (names_at_player game j (get_or game j nobody) at)) (var_names j (get_or game j nobody) at)
 
   has_vars : (k : ℕ) (p : PlayerOf) → slice_get game k ≡ Some p → HasVars p
-  has_vars k p at = let f = form.players k p at in record { some = f.some_var; few = f.var_count; forms = f.vars; names = var_names k p at }
+  has_vars k p at =
+    let f = form.players k p at in
+    let is = all_at IsBuilt game k p built at in
+    record {
+      some = f.some_var;
+      few = f.var_count;
+      forms = λ v d below. record { form = f.vars v d below; low = is.lows v d below };
+      names = var_names k p at;
+    }
 
   has_body : (k : ℕ) (p : PlayerOf) → slice_get game k ≡ Some p → HasBody (names_of game) (variables_of game) k p
   has_body k p at =
@@ -209,30 +221,30 @@ module _ (game : GameOf) (form : IsGame game) (named : IsNamed game) where
         };
       }
 
-  both_back : All (λ p. p.pairs ≡ []) game → both_passes (players_data (names_of game) (variables_of game) 0 game) ≡ Ok game
-  both_back no_pairs =
+  both_back : both_passes (players_data (names_of game) (variables_of game) 0 game) ≡ Ok game
+  both_back =
       rw (headings_back (names_of game) (variables_of game) 0 0 [] game named.players (each_from (λ _ p. HasVars p) 0 game has_vars))
       (rw (names_of_parts game)
       (rw (variables_of_parts game)
       (rw (bodies_back (names_of game) (variables_of game) named.players all_named 0 0 [] game refl (each_from (HasBody (names_of game) (variables_of game)) 0 game (λ k p at. let e : k ≡ 0 + k = omega arith in subst (λ i. HasBody (names_of game) (variables_of game) i p) e (has_body k p at))))
-      (ap Ok (parts_together game no_pairs)))))
+      (ap Ok (parts_together game built)))))
 
-  players_back : All (λ p. p.pairs ≡ []) game → players_in (array (players_data (names_of game) (variables_of game) 0 game)) ≡ Ok game
-  players_back no_pairs =
+  players_back : players_in (array (players_data (names_of game) (variables_of game) 0 game)) ≡ Ok game
+  players_back =
       rw (count_players (names_of game) (variables_of game) 0 game)
-      (rw (leb_is 1 (length game) form.some_player) (rw (leb_is (length game) 16 form.player_count) (both_back no_pairs)))
+      (rw (leb_is 1 (length game) form.some_player) (rw (leb_is (length game) 16 form.player_count) both_back))
 
   format_of_game : needed (codes "format") format_in (game_data game) ≡ Ok tt
   unfolding serde_json_on_literals
   format_of_game = refl
 
-  players_of_game : All (λ p. p.pairs ≡ []) game → needed (codes "players") players_in (game_data game) ≡ Ok game
+  players_of_game : needed (codes "players") players_in (game_data game) ≡ Ok game
   unfolding serde_json_on_literals
-  players_of_game no_pairs = rw (players_back no_pairs) refl
+  players_of_game = rw players_back refl
 
   -- the canonical value of a game is read as the game
-  pub game_back : All (λ p. p.pairs ≡ []) game → game_in (game_data game) ≡ Ok game
-  game_back no_pairs = bind_to (needed (codes "format") format_in (game_data game)) tt (λ _. needed (codes "players") players_in (game_data game)) format_of_game ∙ players_of_game no_pairs
+  pub game_back : game_in (game_data game) ≡ Ok game
+  game_back = bind_to (needed (codes "format") format_in (game_data game)) tt (λ _. needed (codes "players") players_in (game_data game)) format_of_game ∙ players_of_game
 
 -- and no player of it has pairs or followers
 pub game_is_built : (game : GameOf) → is_unbuilt (game_data game) ≡ false
@@ -240,10 +252,10 @@ unfolding serde_json_on_literals
 game_is_built game = built_players (names_of game) (variables_of game) 0 game
 
 -- so its text stands for the game
-pub text_stands : (game : GameOf) (bytes : List ℕ) → IsGame game → IsNamed game → All (λ p. p.pairs ≡ []) game → IsTextOf bytes (game_data game) → StandsFor bytes game
-text_stands game bytes form named no_pairs text = record {
+pub text_stands : (game : GameOf) (bytes : List ℕ) → IsGame game → IsNamed game → All IsBuilt game → IsTextOf bytes (game_data game) → StandsFor bytes game
+text_stands game bytes form named built text = record {
   value = game_data game;
   text = text;
   built = game_is_built game;
-  content = game_back game form named no_pairs;
+  content = game_back game form named built;
 }

@@ -1,8 +1,9 @@
 -- The variables and rows that are read keep the rules.
-use Rattle.std.proofs.Common.{◌≡◌, ◌≢◌, ◌+◌, ◌≤◌, ℤ, pos, List, [], ◌∷◌, ◌++◌, length, map, get_or, sym, subst, ◌∙◌, Ok, Option, Some, None, true, false, codes, bytes_eq, arith, true≢false, length-append}
+use Rattle.std.proofs.Common.{◌≡◌, ◌≢◌, ◌+◌, ◌≤◌, ℤ, pos, List, [], ◌∷◌, ◌++◌, length, map, get_or, sym, subst, ◌∙◌, Ok, Option, Some, None, true, false, codes, bytes_eq, arith, true≢false, length-append, Bool}
 use Rattle.std.specs.Prelude.{◌≤ℤ◌, IsTrue}
 use Rattle.std.specs.List.{All}
 use Rattle.std.specs.Option.{ForSome}
+use Rattle.std.proofs.lemmas.Int.{ints}
 use Rattle.std.proofs.lemmas.List.{map-append}
 use Rattle.std.proofs.lemmas.List.Elements.{All-nil, All-push}
 use Rattle.std.proofs.lemmas.List.Quantifiers.{all_pairs_push}
@@ -11,7 +12,7 @@ use Rattle.std.proofs.lemmas.Slice.Eq.{bytes_eq-Decides}
 use Rattle.serde_json.specs.Data.{Data}
 use Rattle.zr_base.specs.Rows.{RowOf}
 use Rattle.zr_game.specs.Players.{Name, VarOf}
-use Rattle.zr_game.specs.Forms.{number_limit, IsVarForm, IsRowForm}
+use Rattle.zr_game.specs.Forms.{number_limit, IsNumber, IsVarForm, IsRowForm}
 use Rattle.zr_read.specs.declared.fault.GameFault.TheVariants.{BadName, Twice}
 use Rattle.zr_read.specs.Values.{text_in, name_in, is_name, object_in, needed, optional, truth_in, whole_in, number_in, listed, each}
 use Rattle.zr_read.specs.Names.{is_among, new_name_in, var_name, AreNames}
@@ -54,6 +55,16 @@ up_keeps d up h = optional_keeps (λ up. ForSome up (λ z. (pos 0 ≤ℤ z) × (
         let same : b.0 ≡ z = cc (b.2) in
         subst (λ z. (pos 0 ≤ℤ z) × (z ≤ℤ number_limit)) same (whole_ok (pos 0) e b.0 b.1)
 
+-- a variable from 0 on
+from_zero : (s : Name) (b : Bool) (up : Option ℤ) →
+  ForSome up (λ z. (pos 0 ≤ℤ z) × (z ≤ℤ number_limit)) →
+  IsVarForm (record { name = s; whole = b; low = Some (pos 0); up = up })
+from_zero s b up h = record {
+  low = λ z e. let zero : pos 0 ≡ z = cc in subst IsNumber zero (omega (arith, ints), omega (arith, ints));
+  up = λ z e. let is = h z e in (omega (arith, ints), omega (arith, ints));
+  ordered = λ l e u k. let zero : pos 0 ≡ l = cc in let is = h u k in omega (arith, ints);
+}
+
 -- a variable that may stand after these names
 variable_ok : (before : List Name) (d : Data) (v : VarOf) → variable_in before d ≡ Ok v → IsNewName before v.name × IsVarForm v
 variable_ok before d v h =
@@ -62,8 +73,11 @@ variable_ok before d v h =
     let at = needed_ok (codes "name") (new_name_in before) d n.0 n.1 in
     let b = bind_ok (optional (codes "int") false truth_in d) _ v n.2 in
     let u = bind_ok (optional (codes "up") None bound_in d) _ v b.2 in
-    let e : record { name = n.0; whole = b.0; up = u.0 } ≡ v = cc (u.2) in
-    subst (λ v. IsNewName before v.name × IsVarForm v) e (new_name_ok before at.0 n.0 at.1, up_keeps d u.0 u.1)
+    let e : record { name = n.0; whole = b.0; low = Some (pos 0); up = u.0 } ≡ v = cc (u.2) in
+    let form : IsVarForm (record { name = n.0; whole = b.0; low = Some (pos 0); up = u.0 }) =
+      from_zero n.0 b.0 u.0 (up_keeps d u.0 u.1)
+      in
+    subst (λ v. IsNewName before v.name × IsVarForm v) e (new_name_ok before at.0 n.0 at.1, form)
 
 -- variables within their bounds and with names by the rule
 pub record AreVariables (vs : List VarOf) : Type 0 where

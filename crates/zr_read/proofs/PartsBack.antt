@@ -135,9 +135,14 @@ fits_always make P before (x ∷ xs) all = (all 0 x (omega arith), fits_always m
 
 -- ---- variables
 
+-- a variable by the rules, from 0 on
+pub record IsFirstVar (v : VarOf) : Type 0 where
+  pub form : IsVarForm v
+  pub low : v.low ≡ Some (pos 0)
+
 -- a variable that may stand after these
 abbrev pub IsNewVar : List VarOf → VarOf → Type 0
-IsNewVar before v = IsNewName (map var_name before) v.name × IsVarForm v
+IsNewVar before v = IsNewName (map var_name before) v.name × IsFirstVar v
 
 name_of_variable : (before : List Name) (v : VarOf) → IsNewName before v.name → needed (codes "name") (new_name_in before) (variable_data v) ≡ Ok v.name
 unfolding serde_json_on_literals
@@ -147,18 +152,27 @@ int_of_variable : (v : VarOf) → optional (codes "int") false truth_in (variabl
 unfolding serde_json_on_literals
 int_of_variable v = refl
 
-up_of_variable : (b : Bool) (s : Name) (o : Option ℤ) → ForSome o (λ z. (pos 0 ≤ℤ z) × (z ≤ℤ number_limit)) → optional (codes "up") None bound_in (variable_data (record { name = s; whole = b; up = o })) ≡ Ok o
+up_of_variable : (b : Bool) (s : Name) (low o : Option ℤ) →
+  ForSome o (λ z. (pos 0 ≤ℤ z) × (z ≤ℤ number_limit)) →
+  optional (codes "up") None bound_in
+    (variable_data (record { name = s; whole = b; low = low; up = o })) ≡ Ok o
 unfolding serde_json_on_literals
-up_of_variable b s None h = refl
-up_of_variable b s (Some z) h = rw (whole_back (pos 0) z (h z refl).0 (h z refl).1) refl
+up_of_variable b s low None h = refl
+up_of_variable b s low (Some z) h = rw (whole_back (pos 0) z (h z refl).0 (h z refl).1) refl
 
-variable_back : (before : List Name) (v : VarOf) → IsNewName before v.name × IsVarForm v → variable_in before (variable_data v) ≡ Ok v
+variable_back : (before : List Name) (v : VarOf) → IsNewName before v.name × IsFirstVar v → variable_in before (variable_data v) ≡ Ok v
 variable_back before v h =
+    let up : ForSome v.up (λ z. (pos 0 ≤ℤ z) × (z ≤ℤ number_limit)) =
+      λ z e. (h.1.form.ordered (pos 0) h.1.low z e, (h.1.form.up z e).1)
+      in
+    let first : VarOf = record { name = v.name; whole = v.whole; low = Some (pos 0); up = v.up } in
+    let same : Ok first ≡ Ok v = ap (λ low. Ok (record v { low = low })) (sym h.1.low) in
     bind_to (needed (codes "name") (new_name_in before) (variable_data v)) v.name (λ name. variable_named name (variable_data v)) (name_of_variable before v h.0)
-    ∙ bind_to (optional (codes "int") false truth_in (variable_data v)) v.whole (λ integral. optional (codes "up") None bound_in (variable_data v) >>= λ up. Ok (record { name = v.name; whole = integral; up = up })) (int_of_variable v)
-    ∙ bind_to (optional (codes "up") None bound_in (variable_data v)) v.up (λ up. Ok (record { name = v.name; whole = v.whole; up = up })) (up_of_variable v.whole v.name v.up h.1)
+    ∙ bind_to (optional (codes "int") false truth_in (variable_data v)) v.whole (λ integral. optional (codes "up") None bound_in (variable_data v) >>= λ up. Ok (record { name = v.name; whole = integral; low = Some (pos 0); up = up })) (int_of_variable v)
+    ∙ bind_to (optional (codes "up") None bound_in (variable_data v)) v.up (λ up. Ok (record { name = v.name; whole = v.whole; low = Some (pos 0); up = up })) (up_of_variable v.whole v.name v.low v.up up)
+    ∙ same
 
-variables_fit : (before vs : List VarOf) → All IsVarForm vs → AreNames (map var_name (before ++ vs)) → FitsAfter (λ v. v) IsNewVar before vs
+variables_fit : (before vs : List VarOf) → All IsFirstVar vs → AreNames (map var_name (before ++ vs)) → FitsAfter (λ v. v) IsNewVar before vs
 variables_fit before [] forms names = tt
 variables_fit before (v ∷ vs) forms names = (
   (new_in_row (map var_name before) v.name (map var_name vs) (subst AreNames (map-append var_name before (v ∷ vs)) names), forms 0 v (omega arith)),
@@ -166,7 +180,7 @@ variables_fit before (v ∷ vs) forms names = (
 )
 
 -- the variables of a player
-pub variables_back : (vs : List VarOf) → 1 ≤ length vs → length vs ≤ 64 → All IsVarForm vs → AreNames (map var_name vs) → variables_in (array (list_data variable_data vs)) ≡ Ok vs
+pub variables_back : (vs : List VarOf) → 1 ≤ length vs → length vs ≤ 64 → All IsFirstVar vs → AreNames (map var_name vs) → variables_in (array (list_data variable_data vs)) ≡ Ok vs
 variables_back vs l m forms names =
     bind_to (listed 1 64 (array (list_data variable_data vs))) (list_data variable_data vs) (λ ds. each add_variable 0 [] ds) (listed_back 1 64 variable_data vs l m)
     ∙ each_back (λ v. v) IsNewVar add_variable variable_data (λ before v fits. bind_to (variable_in (map var_name before) (variable_data v)) v (λ v. Ok (before ++ v ∷ [])) (variable_back (map var_name before) v fits)) 0 [] vs (variables_fit [] vs forms names)

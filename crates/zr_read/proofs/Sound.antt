@@ -8,7 +8,7 @@ use Rattle.std.proofs.lemmas.Option.{get_or_from_slice_get, slice_get_within, sl
 use Rattle.serde_json.specs.Data.{Data, Items}
 use Rattle.zr_game.specs.declared.player.CrossTerm.{CrossTerm}
 use Rattle.zr_game.specs.Players.{Name, PlayerOf, GameOf}
-use Rattle.zr_game.specs.Forms.{AreTerms, IsRowForm, IsPairForm, IsCoefficient, IsCrossForm, IsPlayerForm, IsGame}
+use Rattle.zr_game.specs.Forms.{AreTerms, IsRowForm, IsPairForm, IsCoefficient, IsCrossForm, IsFromZero, IsOtherForm, IsPlayerForm, IsGame}
 use Rattle.zr_read.specs.Values.{object_in, needed, optional, count, listed, each}
 use Rattle.zr_read.specs.Names.{new_name_in, names_at, var_name, player_name, AreNames, IsNamed}
 use Rattle.zr_read.specs.Parts.{variables_in, terms_in, rows_in, cross_in}
@@ -121,7 +121,7 @@ names-players [] bs e = refl
 names-players (h ∷ hs) [] e = absurd (omega arith)
 names-players (h ∷ hs) (b ∷ bs) e = ap (λ names. h.name ∷ names) (names-players hs bs (omega (arith, e)))
 
-all_at : {A : Type 0} (P : A → Type 0) (xs : List A) (k : ℕ) (x : A) → All P xs → slice_get xs k ≡ Some x → P x
+pub all_at : {A : Type 0} (P : A → Type 0) (xs : List A) (k : ℕ) (x : A) → All P xs → slice_get xs k ≡ Some x → P x
 all_at P xs k x all is = subst P (get_or_from_slice_get xs k x x is) (all k x (slice_get_within xs k x is))
 
 -- as many columns as the player has variables
@@ -149,12 +149,16 @@ module _ (hs : List HeadingOf) (bs : List BodyOf) (same : length bs ≡ length h
         row_count = body.row_count;
         pair_count = omega arith;
         cross_count = body.cross.few;
+        other_count = omega arith;
         vars = heading.vars.forms;
         rows = subst (λ n. All (IsRowForm n) b.rows) e body.rows;
         pairs = All-nil (IsPairForm (length h.vars));
+        from_zero = All-nil (λ pair. IsFromZero h.vars pair.var);
         cost = subst (λ n. AreTerms n b.cost) e body.cost;
         cross = λ k d below. cross_form i (length h.vars) (get_or b.cross k d) e (body.cross.terms k d below);
         cross_ascends = body.cross.ascend;
+        others = All-nil (IsOtherForm (players_from hs bs) i);
+        others_ascend = λ j k d less below. absurd (omega arith);
       }
 
   sound : AreHeadings hs → AreBodies (map heading_name hs) (map variable_names hs) 0 bs → 1 ≤ length hs → length hs ≤ 16 → IsGame (players_from hs bs)
@@ -199,12 +203,12 @@ both_are_right ds game some few h =
 pub players_are_right : (d : Data) (ds : Items) (game : GameOf) → listed 1 16 d ≡ Ok ds → both_passes ds ≡ Ok game → IsGame game
 players_are_right d ds game l h = let few = listed_ok 1 16 d ds l in (both_are_right ds game few.0 few.1 h).0
 
--- the game of a value has names by the rule
-pub game_is_named : (d : Data) (game : GameOf) → game_in d ≡ Ok game → IsNamed game
-game_is_named d game h =
+-- the game of a value keeps the rules, and its names theirs
+pub game_is_right : (d : Data) (game : GameOf) → game_in d ≡ Ok game → IsGame game × IsNamed game
+game_is_right d game h =
     let o = bind_ok (object_in d) _ game h in
     let f = bind_ok (needed (codes "format") format_in d) (λ f. needed (codes "players") players_in d) game o.2 in
     let at = needed_ok (codes "players") players_in d game f.2 in
     let ds = bind_ok (listed 1 16 at.0) both_passes game at.1 in
     let few = listed_ok 1 16 at.0 ds.0 ds.1 in
-    (both_are_right ds.0 game few.0 few.1 ds.2).1
+    both_are_right ds.0 game few.0 few.1 ds.2

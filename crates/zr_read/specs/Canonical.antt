@@ -1,4 +1,4 @@
--- The JSON value of a game without pairs: all members in the order of their names, and lists in the order of the game.
+-- The JSON value of a game of format 1, without pairs and terms in the others' variables: all members in the order of their names, and lists in the order of the game.
 use Rattle.std.specs.Prelude.{ℕ, ◌+◌, ℤ, List, [], ◌∷◌, map, Option, Some, None, codes, slice_index_or}
 use Rattle.serde_json.specs.Data.{Data, boolean, number, string, array, object, Items, no_items, item, Members, no_members, member}
 use Rattle.serde_json.specs.Find.{of_integer}

@@ -22,12 +22,12 @@ bound_in d = do
   z ← whole_in (pos 0) d
   Ok (Some z)
 
--- the variable of a name
+-- the variable of a name, from 0 on
 abbrev pub variable_named : Name → Data → Read VarOf
 variable_named name d = do
   whole ← optional (codes "int") false truth_in d
   up ← optional (codes "up") None bound_in d
-  Ok (record { name = name; whole = whole; up = up })
+  Ok (record { name = name; whole = whole; low = Some (pos 0); up = up })
 
 -- a variable after those of these names
 abbrev pub variable_in : List Name → Data → Read VarOf

@@ -68,9 +68,17 @@ add_body players variables before d = do
 
 -- ---- the game
 
--- a player without pairs
+-- a player without pairs and terms in the others' variables
 abbrev pub player_from : HeadingOf → BodyOf → PlayerOf
-player_from h b = record { name = h.name; vars = h.vars; rows = b.rows; pairs = []; cost = b.cost; cross = b.cross }
+player_from h b = record {
+  name = h.name;
+  vars = h.vars;
+  rows = b.rows;
+  pairs = [];
+  cost = b.cost;
+  cross = b.cross;
+  others = [];
+}
 
 -- each heading with its body
 abbrev pub players_from : List HeadingOf → List BodyOf → GameOf

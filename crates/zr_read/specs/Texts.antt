@@ -1,10 +1,11 @@
 -- What the bytes of a game's text stand for.
-use Rattle.std.specs.Prelude.{◌≡◌, ℕ, Bool, true, false, ◌||◌, not, List, [], Option, Some, None, Result, Ok, Err, codes, string_bytes, IsUtf8, ◌⊎◌}
+use Rattle.std.specs.Prelude.{◌≡◌, ℕ, ℤ, pos, Bool, true, false, ◌||◌, not, List, [], Option, Some, None, Result, Ok, Err, codes, string_bytes, IsUtf8, ◌⊎◌}
+use Rattle.std.specs.List.{All}
 use Rattle.serde_json.specs.Data.{Data, null, boolean, number, string, array, object, Items, no_items, item}
 use Rattle.serde_json.specs.Find.{get}
 use Rattle.serde_json.specs.Read.{read}
 use Rattle.zr_game.specs.declared.game.Game.{Game}
-use Rattle.zr_game.specs.Players.{GameOf}
+use Rattle.zr_game.specs.Players.{GameOf, PlayerOf}
 use Rattle.zr_game.specs.Games.{game_of}
 use Rattle.zr_read.specs.declared.fault.GameFault.{GameFault}
 use Rattle.zr_read.specs.declared.fault.GameFault.TheVariants.{NotJson}
@@ -13,7 +14,7 @@ use Rattle.zr_read.specs.declared.fault.GameError.TheVariants.{At, Unbuilt, NoMe
 use Rattle.zr_read.specs.Faults.{Reads}
 use Rattle.zr_read.specs.Passes.{game_in}
 
--- ---- pairs and followers, which are not read yet
+-- ---- pairs, followers and terms in the others' variables, which are not read yet
 
 abbrev pub is_empty_list : Data → Bool
 is_empty_list (array no_items) = true
@@ -30,7 +31,10 @@ is_unread None = false
 is_unread (Some d) = not (is_empty_list d)
 
 abbrev pub is_unbuilt_player : Data → Bool
-is_unbuilt_player d = is_unread (get (codes "pairs") d) || is_unread (get (codes "followers") d)
+is_unbuilt_player d =
+  is_unread (get (codes "pairs") d)
+    || is_unread (get (codes "followers") d)
+    || is_unread (get (codes "others") d)
 
 abbrev pub is_any_unbuilt : Items → Bool
 is_any_unbuilt no_items = false
@@ -48,13 +52,19 @@ abbrev pub is_unbuilt_member : Option Data → Bool
 is_unbuilt_member None = false
 is_unbuilt_member (Some d) = is_unbuilt_list d
 
--- some player of the list `players` has pairs or followers
+-- some player of the list `players` has such parts
 abbrev pub is_unbuilt : Data → Bool
 is_unbuilt d = is_unbuilt_member (get (codes "players") d)
 
+-- a player without them, each of whose variables has the lower bound 0
+pub record IsBuilt (player : PlayerOf) : Type 0 where
+  pub pairs : player.pairs ≡ []
+  pub others : player.others ≡ []
+  pub lows : All (λ var. var.low ≡ Some (pos 0)) player.vars
+
 -- ---- the answer to a value
 
--- Unbuilt where some player has pairs or followers, and else the game or the first fault in the value
+-- Unbuilt where some player has parts that are not read yet, and else the game or the first fault in the value
 abbrev pub IsAnswerIf : Bool → Data → Result Game GameError → Type 0
 IsAnswerIf true value result = result ≡ Err Unbuilt
 IsAnswerIf false value result = Reads game_of result (game_in value)
@@ -92,13 +102,13 @@ pub record IsNotJson (bytes : List ℕ) (kind : GameFault) (path : List ℕ) : T
 abbrev pub HasFirstFault : List ℕ → GameFault → List ℕ → Type 0
 HasFirstFault bytes kind path = IsNotJson bytes kind path ⊎ HasFault bytes kind path
 
--- the bytes are the JSON text of a value in which some player has pairs or followers
+-- the bytes are the JSON text of a value in which some player has parts that are not read yet
 pub record IsUnbuilt (bytes : List ℕ) : Type 0 where
   pub value : Data
   pub text : IsTextOf bytes value
   pub unbuilt : is_unbuilt value ≡ true
 
--- why a text is not read: its first fault, pairs or followers, or want of memory
+-- why a text is not read: its first fault, parts that are not read yet, or want of memory
 abbrev pub IsRefusal : List ℕ → GameError → Type 0
 IsRefusal bytes (At what path) = HasFirstFault bytes what (string_bytes path)
 IsRefusal bytes Unbuilt = IsUnbuilt bytes

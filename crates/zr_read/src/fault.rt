@@ -69,7 +69,7 @@ pub enum GameError {
     /// The first fault, and the JSON pointer of the value at fault: for a member that is missing,
     /// of where it would be. For NotJson it is empty.
     At { fault: GameFault, path: String },
-    /// Some player has pairs or followers, which are not read yet.
+    /// Some player has pairs, followers or terms in the others' variables, which are not read yet.
     Unbuilt,
     /// Memory ran out.
     NoMemory,

@@ -94,14 +94,16 @@ fn has_unread(object: &Value, name: &str) -> bool
     }
 }
 
-/// Whether a player has pairs or followers.
+/// Whether a player has pairs, followers or terms in the others' variables.
 fn is_unbuilt_player(player: &Value) -> bool
     ensures { result ≡ is_unbuilt_player (view player.now) }
 {
-    has_unread(player, "pairs") || has_unread(player, "followers")
+    has_unread(player, "pairs")
+        || has_unread(player, "followers")
+        || has_unread(player, "others")
 }
 
-/// Whether some player of a list has pairs or followers.
+/// Whether some player of a list has parts that are not read yet.
 fn is_any_unbuilt(items: &[Value]) -> bool
     ensures { result ≡ is_any_unbuilt (items_view items.now) }
 {
@@ -113,7 +115,7 @@ fn is_any_unbuilt(items: &[Value]) -> bool
     false
 }
 
-/// Whether a value is a list with a player that has pairs or followers.
+/// Whether a value is a list with a player that has parts that are not read yet.
 fn is_unbuilt_list(value: &Value) -> bool
     ensures { result ≡ is_unbuilt_list (view value.now) }
 {
@@ -123,7 +125,7 @@ fn is_unbuilt_list(value: &Value) -> bool
     }
 }
 
-/// Whether some player has pairs or followers.
+/// Whether some player has parts that are not read yet.
 fn is_unbuilt(value: &Value) -> bool
     ensures { result ≡ is_unbuilt (view value.now) }
 {
@@ -133,7 +135,7 @@ fn is_unbuilt(value: &Value) -> bool
     }
 }
 
-/// The game of a JSON value, where no player has pairs or followers.
+/// The game of a JSON value, where no player has parts that are not read yet.
 fn read_built(alloc: Global, value: &Value) -> Result<Game, GameError>
     ensures { IsAnswer (view value.now) result }
 {
@@ -147,12 +149,13 @@ fn read_built(alloc: Global, value: &Value) -> Result<Game, GameError>
 /// Reads the text of a game: JSON of the format `zero-game/1`.
 ///
 /// A game has 1 to 16 players, each with 1 to 64 variables, at most 256 rows and at most 65,536
-/// cross terms. Numbers are within ±1,000,000,000, and upper bounds from 0. Terms and cross terms
-/// of number 0 are read and left out.
+/// cross terms. Numbers are within ±1,000,000,000; each lower bound is 0, and upper bounds are from
+/// 0. Terms and cross terms of number 0 are read and left out.
 ///
 /// The error is the first fault in the order of reading: the JSON, `format` and `players`; then for
 /// each player its name and variables; then for each player its rows, cost and cross terms. Where
-/// some player has pairs or followers it is `Unbuilt` instead, also where there are faults.
+/// some player has pairs, followers or terms in the others' variables it is `Unbuilt` instead, also
+/// where there are faults.
 pub fn read_game(alloc: Global, bytes: &[u8]) -> Result<Game, GameError>
     ensures game { IfOk result (λ game. StandsFor bytes.now (game_of game)) }
     ensures named { IfOk result (λ game. IsNamed (game_of game)) }

@@ -233,6 +233,7 @@ fn player_of(alloc: Global, heading: Heading, body: Body) -> Player
         pairs: Vec::new(alloc),
         cost: body.cost,
         cross: body.cross,
+        others: Vec::new(alloc),
     }
 }
 

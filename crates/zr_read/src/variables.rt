@@ -48,7 +48,12 @@ fn read_variable(alloc: Global, name: &str, object: &Value) -> Result<Var, GameE
     let whole = read_int(alloc, object)?;
     let up = read_up(alloc, object)?;
     let name = String::from_str(alloc, name)?;
-    Ok(Var { name, whole, up })
+    Ok(Var {
+        name,
+        whole,
+        low: Some(0),
+        up,
+    })
 }
 
 /// Adds a variable to those before it, and its name to theirs.
