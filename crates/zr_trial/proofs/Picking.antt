@@ -3,12 +3,13 @@ use Rattle.std.proofs.Common.{◌≡◌, ℕ, ◌<◌, arith, sym, ap, subst, �
 use Rattle.std.proofs.lemmas.Int.{ints}
 use Rattle.std.proofs.lemmas.List.{get_or_default}
 use Rattle.zr_base.proofs.Ring.{spread}
-use Rattle.zr_base.specs.Fractions.{Fraction, HaveSameCross, plus, whole}
+use Rattle.zr_base.specs.Fractions.{Fraction, HaveSameCross, plus, sum_over, whole}
 use Rattle.zr_base.specs.Points.{PointOf}
 use Rattle.zr_game.specs.declared.player.CrossTerm.{CrossTerm}
+use Rattle.zr_game.specs.declared.player.Other.{Other}
 use Rattle.zr_game.specs.Players.{GameOf, PlayerOf}
 use Rattle.zr_game.specs.Forms.{IsCrossForm, IsPlayer}
-use Rattle.zr_game.specs.Costs.{point_of}
+use Rattle.zr_game.specs.Costs.{other_at, point_of, rest_at}
 use Rattle.zr_trial.specs.Numbering.{ArePlaces}
 use Rattle.zr_trial.specs.Choices.{AreAllChoices, IsChoice, IsWholePoint, lengths, picked}
 use Rattle.zr_trial.specs.Trials.{IsCrossTerm}
@@ -58,3 +59,17 @@ plus_plain a b n d m e p q =
 -- the sum of two whole values
 pub same_plus : (a b : ℤ) (f g : Fraction) → HaveSameCross (whole a) f → HaveSameCross (whole b) g → HaveSameCross (whole (a +ℤ b)) (plus f g)
 same_plus a b f g p q = plus_plain a b f.num f.den g.num g.den p q
+
+-- without terms in the others' variables nothing is added
+pub no_rest : (player : PlayerOf) (value : ℕ × ℕ → Fraction) (z : ℤ) (f : Fraction) →
+  player.others ≡ [] → HaveSameCross (whole z) f →
+  HaveSameCross (whole z) (plus f (rest_at player value))
+no_rest player value z f none h =
+    let nothing : HaveSameCross (whole (pos 0)) (whole (pos 0)) = omega (arith, ints) in
+    let zero : z +ℤ pos 0 ≡ z = omega (arith, ints) in
+    let sum = same_plus z (pos 0) f (whole (pos 0)) h nothing in
+    let same : HaveSameCross (whole z) (plus f (whole (pos 0))) =
+      subst (λ y. HaveSameCross (whole y) (plus f (whole (pos 0)))) zero sum
+      in
+    subst (λ (ts : List Other). HaveSameCross (whole z) (plus f (sum_over ts (other_at value))))
+      (sym none) same

@@ -3,7 +3,7 @@ use Rattle.std.proofs.Common.{ℕ, zero, suc, ◌<◌, arith, subst, refl, [], �
 use Rattle.std.proofs.lemmas.Option.{get_or_from_slice_get}
 use Rattle.zr_game.specs.Players.{GameOf, PlayerOf}
 use Rattle.zr_game.specs.Forms.{IsPlayer}
-use Rattle.zr_trial.specs.Reach.{IsBoundedWhole, IsWithinReach}
+use Rattle.zr_trial.specs.Reach.{IsBoundedWhole, IsPlainPlayer, IsWithinReach}
 
 pub there : (game : GameOf) (i : ℕ) → i < length game → (player : PlayerOf) × IsPlayer game i player
 there [] i h = absurd (omega arith)
@@ -16,6 +16,12 @@ player_below (p ∷ game) zero player e = omega arith
 player_below (p ∷ game) (suc i) player e = let r = player_below game i player e in omega (arith, r)
 
 -- what reach says of a player
-pub bounded_of : (game : GameOf) (i : ℕ) (player : PlayerOf) → IsWithinReach game → IsPlayer game i player → All IsBoundedWhole player.vars
-bounded_of game i player reach is =
-    subst (λ (p : PlayerOf). All IsBoundedWhole p.vars) (get_or_from_slice_get game i player player is) (reach.bounded i player (player_below game i player is))
+pub plain_of : (game : GameOf) (i : ℕ) (player : PlayerOf) → IsWithinReach game →
+  IsPlayer game i player → IsPlainPlayer player
+plain_of game i player reach is =
+    let e = get_or_from_slice_get game i player player is in
+    subst IsPlainPlayer e (reach.plain i player (player_below game i player is))
+
+pub bounded_of : (game : GameOf) (i : ℕ) (player : PlayerOf) → IsWithinReach game →
+  IsPlayer game i player → All IsBoundedWhole player.vars
+bounded_of game i player reach is = (plain_of game i player reach is).vars

@@ -91,6 +91,14 @@ within_count (Some up) z some low high =
     let h : z ≤ℤ up = rw (← one) high in
     omega (arith, ints, h, low)
 
+at_least : (low : Option ℤ) (z : ℤ) → low ≡ Some (pos 0) → IfSome low (λ b. (b *ℤ pos 1) ≤ℤ z) →
+  (pos 0) ≤ℤ z
+at_least None z e h = absurd cc
+at_least (Some b) z e h =
+    let zero : b ≡ pos 0 = cc in
+    let one : b *ℤ pos 1 ≡ b = omega (arith, ints) in
+    subst (λ y. y ≤ℤ z) (one ∙ zero) h
+
 -- whole values within their bounds are places
 pub fit : (vars : List VarOf) (num : List ℤ) → length num ≡ length vars → All IsBoundedWhole vars → ((v : ℕ) (var : VarOf) → slice_get vars v ≡ Some var → IsWithin var (get_or num v (pos 0)) (pos 1)) → ArePlaces (value_counts vars) (map unsigned_abs num)
 fit [] [] len all within = tt
@@ -98,7 +106,9 @@ fit [] (z ∷ num) len all within = absurd (omega arith)
 fit (var ∷ vars) [] len all within = absurd (omega arith)
 fit (var ∷ vars) (z ∷ num) len all within =
     let w = within 0 var refl in
-    (within_count var.up z (All-head IsBoundedWhole var vars all).up w.low w.high, fit vars num (omega arith) (All-tail IsBoundedWhole var vars all) (λ v u e. within (suc v) u e))
+    let b = All-head IsBoundedWhole var vars all in
+    let low = at_least var.low z b.low w.low in
+    (within_count var.up z b.up low w.high, fit vars num (omega arith) (All-tail IsBoundedWhole var vars all) (λ v u e. within (suc v) u e))
 
 module _ (player : PlayerOf) (x : PointOf) (bounded : All IsBoundedWhole player.vars) (choice : IsChoice player x) where
   pub choice_fits : ArePlaces (value_counts player.vars) (map unsigned_abs x.num)

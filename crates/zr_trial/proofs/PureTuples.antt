@@ -115,7 +115,7 @@ module _ (game : GameOf) (reach : IsWithinReach game) (lists : List (List PointO
         let values = profile_values_of profile one in
         let found = profile_values_of (pure_profile zs) (surely_pure zs) ∙ ap values_of (points_of-surely zs) in
         let b = subst (λ fs. IsBefore (values_of (points_of profile)) fs) found (subst (λ fs. IsBefore fs (profile_values (pure_profile zs))) values before) in
-        let l = tuple_order game lists (tuple_of lists m.0) (tuple_of lists n) (points_of profile) reach.bounded all (places_below (lengths lists) m.0 m.1) (places_below (lengths lists) n below) m.3 b in
+        let l = tuple_order game lists (tuple_of lists m.0) (tuple_of lists n) (points_of profile) (λ k p h. (reach.plain k p h).vars) all (places_below (lengths lists) m.0 m.1) (places_below (lengths lists) n below) m.3 b in
         none m.0 (omega (arith, l, number-places (lengths lists) m.0 m.1, number-places (lengths lists) n below)) m.2;
   }
 

@@ -4,6 +4,7 @@ use Rattle.std.proofs.lemmas.Int.{ints, unsigned_abs-mul}
 use Rattle.std.proofs.lemmas.Nat.{mul-le}
 use Rattle.std.proofs.lemmas.List.{length-map, length_push, get_or_past}
 use Rattle.std.proofs.lemmas.List.Elements.{All-head, All-tail, All-cons, All-nil, All-push}
+use Rattle.std.specs.Option.{ForSome}
 use Rattle.std.proofs.lemmas.Bool.{cases_lt}
 use Rattle.std.proofs.lemmas.Bool.Decides.{nat_tests}
 use Rattle.zr_base.specs.declared.step.Wide.{Wide}
@@ -13,9 +14,9 @@ use Rattle.zr_base.specs.Tests.{Tells, first_wide}
 use Rattle.zr_base.specs.Terms.{Terms, AscendWith}
 use Rattle.zr_base.specs.Points.{PointOf, num_of}
 use Rattle.zr_base.specs.Rows.{RowOf, products}
-use Rattle.zr_game.specs.Players.{GameOf, PairOf, PlayerOf}
-use Rattle.zr_game.specs.Forms.{AreTerms, IsCoefficient, IsPairForm, IsPlayerForm, IsRowForm, IsVarForm}
-use Rattle.zr_game.specs.FeasibleSteps.{bound_wide, feasible_wide, pair_wide, row_wide}
+use Rattle.zr_game.specs.Players.{GameOf, PairOf, PlayerOf, VarOf}
+use Rattle.zr_game.specs.Forms.{AreTerms, IsCoefficient, IsNumber, IsPairForm, IsPlayerForm, IsRowForm, IsVarForm}
+use Rattle.zr_game.specs.FeasibleSteps.{bound_wide, feasible_wide, pair_wide, row_wide, var_wide}
 use Rattle.zr_trial.specs.Choices.{IsWholePoint}
 
 narrow_is : (z : ℤ) → IsNarrow z → narrow z ≡ Some z
@@ -76,12 +77,15 @@ module _ (x : PointOf) (whole : IsWholePoint x) where
   last_step a small =
       rw whole.whole (a *ℤ pos 1 -ℤ pos 0 *ℤ pos 0, cross_narrow (a, pos 1) (pos 0, pos 0) (omega (arith, ints, small)) (omega arith) (omega (arith, ints, small)))
 
-  bound_small : (up : Option ℤ) → ((z : ℤ) → up ≡ Some z → ((pos 0) ≤ℤ z) × (z ≤ℤ pos 1000000000)) → bound_wide x.den up ≡ None
+  bound_small : (up : Option ℤ) → ForSome up IsNumber → bound_wide x.den up ≡ None
   bound_small None form = refl
   bound_small (Some z) form =
       let f = form z refl in
       let l = last_step z (omega (arith, ints, f)) in
       rw l.1 refl
+
+  var_small : (var : VarOf) → IsVarForm var → var_wide x.den var ≡ None
+  var_small var form = rw (bound_small var.low form.low) (bound_small var.up form.up)
 
   terms_length : (columns : ℕ) (ts : Terms) → columns ≤ 64 → AreTerms columns ts → length (products ts x.num) ≤ 64
   terms_length columns ts few a =
@@ -112,7 +116,7 @@ first_none f P (x ∷ xs) h all = rw (h x (All-head P x xs all)) (first_none f P
 -- a whole point is tested without a wide step
 pub feasible_small : (game : GameOf) (i : ℕ) (player : PlayerOf) (x : PointOf) → IsPlayerForm game i player → IsWholePoint x → feasible_wide player x ≡ None
 feasible_small game i player x form whole =
-    let vars = first_none (λ var. bound_wide x.den var.up) IsVarForm player.vars (λ var f. bound_small x whole var.up f) form.vars in
+    let vars = first_none (var_wide x.den) IsVarForm player.vars (var_small x whole) form.vars in
     let rows = first_none (row_wide x) (IsRowForm (length player.vars)) player.rows (λ row f. row_small x whole (length player.vars) row form.var_count f) form.rows in
     let pairs = first_none (pair_wide x) (IsPairForm (length player.vars)) player.pairs (λ pair f. pair_small x whole (length player.vars) pair form.var_count f) form.pairs in
     rw (vars, rows, pairs) refl

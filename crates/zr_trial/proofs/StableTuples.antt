@@ -66,13 +66,14 @@ module _ (game : GameOf) (reach : IsWithinReach game) where
           let b = all_whole i player is v var.0 var.1 in
           let up = some_up var.0.up b.up in
           let s = up_small i player is v var.0 var.1 up.0 up.1 in
-          let r = whole_within player x f w v var.0 var.1 up.0 up.1 in
+          let r = whole_within player x f w v var.0 var.1 (pos 0) up.0 b.low up.1 in
           rw (get_or_default (whole_of x).num v d (pos 0) h) (omega (arith, ints, r, s))
 
   -- a feasible point has the values of its whole point
   pub whole_values : (i : ℕ) (player : PlayerOf) → IsPlayer game i player → (x : PointOf) → IsFeasible player x → (v : ℕ) → num_of x v *ℤ pos 1 ≡ num_of (whole_of x) v *ℤ x.den
   whole_values i player is x f v =
-      (same_whole x (feasible_whole player x f (λ u var e. (all_whole i player is u var e).whole))).1 v
+      let whole = feasible_whole player x f (λ u var e. (all_whole i player is u var e).whole) in
+      (same_whole x f.point whole).values v
 
   module _ (lists : List (List PointOf)) (all : AreAllChoices game lists) where
     dens : (places : List ℕ) → ArePlaces (lengths lists) places → All IsWholeDen (picked lists places)

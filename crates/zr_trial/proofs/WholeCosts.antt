@@ -1,17 +1,19 @@
 -- Costs at whole points as sums of whole numbers.
-use Rattle.std.proofs.Common.{◌≡◌, ℕ, ◌+◌, ◌*◌, ◌<◌, ◌≤◌, arith, refl, sym, ap, ap₂, ◌∙◌, ℤ, pos, ◌+ℤ◌, ◌*ℤ◌, unsigned_abs, List, [], ◌∷◌, ◌++◌, length, get_or, take, All, ⊎_elim}
+use Rattle.std.proofs.Common.{◌≡◌, ℕ, ◌+◌, ◌*◌, ◌<◌, ◌≤◌, arith, refl, sym, ap, ap₂, ◌∙◌, ℤ, pos, ◌+ℤ◌, ◌*ℤ◌, unsigned_abs, Option, None, Some, List, [], ◌∷◌, ◌++◌, length, get_or, take, All, ⊎_elim}
+use Rattle.std.specs.Option.{option_map_or}
 use Rattle.std.proofs.lemmas.Int.{ints, unsigned_abs-mul}
 use Rattle.std.proofs.lemmas.Nat.{mul-le}
 use Rattle.std.proofs.lemmas.List.{get_or_past, take_all, take_more}
 use Rattle.std.proofs.lemmas.Bool.{cases_lt}
-use Rattle.zr_base.specs.Fractions.{Fraction, HaveSameCross, sum_over, times, whole}
+use Rattle.zr_base.specs.Fractions.{Fraction, HaveSameCross, plus, sum_over, times, whole}
 use Rattle.zr_base.specs.Points.{PointOf, num_of, value_of}
 use Rattle.zr_base.specs.Terms.{Terms}
 use Rattle.zr_base.proofs.Worth.{Worth, sum_list, worth-multiple, worth-plus, worth-times, worth-zero}
 use Rattle.zr_base.proofs.Divisors.{cancel}
 use Rattle.zr_game.specs.declared.player.CrossTerm.{CrossTerm}
+use Rattle.zr_game.specs.declared.player.Other.{Other}
 use Rattle.zr_game.specs.Players.{PlayerOf}
-use Rattle.zr_game.specs.Costs.{cost_of, point_of}
+use Rattle.zr_game.specs.Costs.{cost_of, other_at, point_of, rest_at, value_at_place}
 
 -- own numbers times own numerators
 abbrev pub own_sum : Terms → PointOf → ℤ
@@ -53,13 +55,60 @@ pub cross_worth : (terms : List CrossTerm) (i : ℕ) (xs ys : List PointOf) → 
 cross_worth terms i xs ys at =
     worth-sum_over (pos 1) terms (λ t. times (whole t.coef) (times (value_of (point_of xs i) t.own) (value_of (point_of xs t.player) t.var))) (λ t. t.coef *ℤ (num_of (point_of ys i) t.own *ℤ num_of (point_of ys t.player) t.var)) (λ t. worth-multiple (pos 1) t.coef (times (value_of (point_of xs i) t.own) (value_of (point_of xs t.player) t.var)) (num_of (point_of ys i) t.own *ℤ num_of (point_of ys t.player) t.var) (worth-times (pos 1) (pos 1) (value_of (point_of xs i) t.own) (value_of (point_of xs t.player) t.var) (num_of (point_of ys i) t.own) (num_of (point_of ys t.player) t.var) (at i t.own) (at t.player t.var)))
 
+-- a term in the others' variables, at numerators
+abbrev num_at : List PointOf → ℕ × ℕ → ℤ
+num_at ys at = num_of (point_of ys at.0) at.1
+
+abbrev other_num : List PointOf → Other → ℤ
+other_num ys t =
+  let one = t.coef *ℤ num_at ys t.first in
+  option_map_or (λ at. one *ℤ num_at ys at) t.second one
+
+abbrev rest_sum : List Other → List PointOf → ℤ
+rest_sum terms ys = sum_list terms (other_num ys)
+
+second_worth : (xs ys : List PointOf) → AreWholeAt xs ys → (f : Fraction) (n : ℤ) →
+  Worth (pos 1) f n → (second : Option (ℕ × ℕ)) →
+  Worth (pos 1) (option_map_or (λ at. times f (value_at_place xs at)) second f)
+    (option_map_or (λ at. n *ℤ num_at ys at) second n)
+second_worth xs ys is f n w None = w
+second_worth xs ys is f n w (Some at) =
+  worth-times (pos 1) (pos 1) f (value_at_place xs at) n (num_at ys at) w (is at.0 at.1)
+
+other_worth : (xs ys : List PointOf) → AreWholeAt xs ys → (t : Other) →
+  Worth (pos 1) (other_at (value_at_place xs) t) (other_num ys t)
+other_worth xs ys is t =
+  let value = value_at_place xs t.first in
+  let one = worth-multiple (pos 1) t.coef value (num_at ys t.first) (is t.first.0 t.first.1) in
+  second_worth xs ys is (times (whole t.coef) value) (t.coef *ℤ num_at ys t.first) one t.second
+
+rest_worth : (terms : List Other) (xs ys : List PointOf) → AreWholeAt xs ys →
+  Worth (pos 1) (sum_over terms (other_at (value_at_place xs))) (rest_sum terms ys)
+rest_worth terms xs ys is =
+  worth-sum_over (pos 1) terms (other_at (value_at_place xs)) (other_num ys) (other_worth xs ys is)
+
 -- a player's cost as a whole number
 abbrev pub whole_cost : PlayerOf → ℕ → List PointOf → ℤ
-whole_cost player i ys = own_sum player.cost (point_of ys i) +ℤ cross_sum player.cross i ys
+whole_cost player i ys =
+  (own_sum player.cost (point_of ys i) +ℤ cross_sum player.cross i ys) +ℤ rest_sum player.others ys
 
 pub cost_worth : (player : PlayerOf) (i : ℕ) (xs ys : List PointOf) → AreWholeAt xs ys → Worth (pos 1) (cost_of player i xs) (whole_cost player i ys)
 cost_worth player i xs ys at =
-    worth-plus (pos 1) (sum_over player.cost (λ t. times (whole t.1) (value_of (point_of xs i) t.0))) (sum_over player.cross (λ t. times (whole t.coef) (times (value_of (point_of xs i) t.own) (value_of (point_of xs t.player) t.var)))) (own_sum player.cost (point_of ys i)) (cross_sum player.cross i ys) (own_worth player.cost (point_of xs i) (point_of ys i) (at i)) (cross_worth player.cross i xs ys at)
+    let own = sum_over player.cost (λ t. times (whole t.1) (value_of (point_of xs i) t.0)) in
+    let value = value_of (point_of xs i) in
+    let cross =
+      sum_over player.cross
+        (λ t. times (whole t.coef) (times (value t.own) (value_of (point_of xs t.player) t.var)))
+      in
+    let own_num = own_sum player.cost (point_of ys i) in
+    let cross_num = cross_sum player.cross i ys in
+    let own_is = own_worth player.cost (point_of xs i) (point_of ys i) (at i) in
+    let cross_is = cross_worth player.cross i xs ys at in
+    let both = worth-plus (pos 1) own cross own_num cross_num own_is cross_is in
+    let rest = rest_at player (value_at_place xs) in
+    let rest_is = rest_worth player.others xs ys at in
+    worth-plus (pos 1) (plus own cross) rest (own_num +ℤ cross_num) (rest_sum player.others ys) both
+      rest_is
 
 -- a whole point is its own whole point
 pub whole_at : (x : PointOf) → x.den ≡ pos 1 → IsWholeAt x x

@@ -1,12 +1,18 @@
 -- The games whose points are all tried.
-use Rattle.std.specs.Prelude.{◌≡◌, ℕ, ◌+◌, ◌*◌, ◌≤◌, true, IsSome, List, [], ◌∷◌, Option, Some, None, unsigned_abs, ℤ}
+use Rattle.std.specs.Prelude.{◌≡◌, ℕ, ◌+◌, ◌*◌, ◌≤◌, true, IsSome, List, [], ◌∷◌, Option, Some, None, unsigned_abs, ℤ, pos}
 use Rattle.std.specs.List.{All}
-use Rattle.zr_game.specs.Players.{GameOf, VarOf}
+use Rattle.zr_game.specs.Players.{GameOf, PlayerOf, VarOf}
 
--- a variable with finitely many values: whole, with an upper bound
+-- a variable with finitely many values from 0 on: whole, with the lower bound 0 and an upper bound
 pub record IsBoundedWhole (var : VarOf) : Type 0 where
   pub whole : var.whole ≡ true
+  pub low : var.low ≡ Some (pos 0)
   pub up : IsSome var.up
+
+-- a player whose variables are all such, and whose cost has no terms in the others' variables alone
+pub record IsPlainPlayer (player : PlayerOf) : Type 0 where
+  pub vars : All IsBoundedWhole player.vars
+  pub others : player.others ≡ []
 
 -- how many whole values from 0 to the bound there are
 abbrev pub value_count : Option ℤ → ℕ
@@ -23,7 +29,7 @@ abbrev pub profile_count : GameOf → ℕ
 profile_count [] = 1
 profile_count (player ∷ players) = choice_count player.vars * profile_count players
 
--- all variables are whole and bounded, and there are at most 100,000 combinations of their values
+-- all players are plain, and there are at most 100,000 combinations of their variables' values
 pub record IsWithinReach (game : GameOf) : Type 0 where
-  pub bounded : All (λ player. All IsBoundedWhole player.vars) game
+  pub plain : All IsPlainPlayer game
   pub few : profile_count game ≤ 100000

@@ -5,7 +5,7 @@ ghost use Rattle.zr_game.specs.Games.{game_of};
 ghost use Rattle.zr_game.specs.Players.{PlayerOf, var_of};
 ghost use Rattle.zr_game.specs.Forms.{IsPlayer, IsVarForm};
 ghost use Rattle.zr_game.specs.Feasible.{IsFeasible};
-ghost use Rattle.zr_trial.specs.Reach.{IsWithinReach, choice_count, value_count};
+ghost use Rattle.zr_trial.specs.Reach.{IsBoundedWhole, IsWithinReach, choice_count, value_count};
 ghost use Rattle.zr_trial.specs.Numbering.{IsNumbering, places_of};
 ghost use Rattle.zr_trial.specs.Choices.{AreAllChoices, AreChoices, IsWholePoint, lists_of, value_counts, whole_point};
 
@@ -78,6 +78,7 @@ fn numbered_point(
 /// The numbering of the combinations of the variables' values.
 fn value_numbering(alloc: Global, vars: &[Var]) -> Result<Numbering, AllocError>
     requires forms { All IsVarForm (map var_of vars.now) }
+    requires bounded { All IsBoundedWhole (map var_of vars.now) }
     requires few { choice_count (map var_of vars.now) ≤ 100000 }
     ensures { IfOk result (λ n. IsNumbering (value_counts (map var_of vars.now)) n.strides.items n.total) }
 {
@@ -87,7 +88,8 @@ fn value_numbering(alloc: Global, vars: &[Var]) -> Result<Numbering, AllocError>
 
 /// How many values each variable has.
 fn value_counts(alloc: Global, vars: &[Var]) -> Result<Vec<usize>, AllocError>
-    requires { All IsVarForm (map var_of vars.now) }
+    requires forms { All IsVarForm (map var_of vars.now) }
+    requires bounded { All IsBoundedWhole (map var_of vars.now) }
     ensures { IfOk result (λ counts. counts.items ≡ value_counts (map var_of vars.now)) }
 {
     let mut counts = Vec::with_capacity(alloc, vars.len())?;
@@ -97,9 +99,10 @@ fn value_counts(alloc: Global, vars: &[Var]) -> Result<Vec<usize>, AllocError>
     Ok(counts)
 }
 
-/// How many whole values a variable with a bound has.
+/// How many whole values a variable from 0 to a bound has.
 fn value_count(var: &Var) -> usize
-    requires { IsVarForm (var_of var.now) }
+    requires form { IsVarForm (var_of var.now) }
+    requires bounded { IsBoundedWhole (var_of var.now) }
     ensures { result ≡ value_count var.now.up }
 {
     match var.up {

@@ -7,6 +7,7 @@ ghost use Rattle.zr_game.specs.Games.{game_of};
 ghost use Rattle.zr_game.specs.Players.{PlayerOf};
 ghost use Rattle.zr_game.specs.Forms.{AreTerms, IsNumber, IsPlayer};
 ghost use Rattle.zr_game.specs.Costs.{cost_of, point_of};
+ghost use Rattle.zr_trial.specs.Reach.{IsWithinReach};
 ghost use Rattle.zr_trial.specs.Numbering.{ArePlaces};
 ghost use Rattle.zr_trial.specs.Choices.{AreAllChoices, IsWholePoint, lengths, lists_of, picked};
 ghost use Rattle.zr_trial.specs.Trials.{IsCrossTerm, IsSmallCost};
@@ -16,6 +17,7 @@ use zr_game::{CrossTerm, Game};
 
 /// The cost of player `i` where each player plays the point at its place.
 pub fn cost(game: &Game, i: usize, lists: &[Vec<Point>], places: &[usize]) -> i128
+    requires reach { IsWithinReach (game_of game.now) }
     requires lists { AreAllChoices (game_of game.now) (lists_of lists.now) }
     requires places { ArePlaces (lengths (lists_of lists.now)) places.now }
     requires player { i < length (game_of game.now) }

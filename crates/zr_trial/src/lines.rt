@@ -3,6 +3,7 @@
 ghost use Rattle.std.specs.Prelude.{◌≡◌, ◌<◌, ◌≤◌, ◌+◌, ◌*◌, length, IfOk, OnOk};
 ghost use Rattle.std.specs.List.{All};
 ghost use Rattle.zr_game.specs.Games.{game_of};
+ghost use Rattle.zr_trial.specs.Reach.{IsWithinReach};
 ghost use Rattle.zr_trial.specs.Numbering.{product, strides_of};
 ghost use Rattle.zr_trial.specs.Choices.{AreAllChoices, lengths, lists_of};
 ghost use Rattle.zr_trial.specs.Trials.{AreEntries, AreLeast, AreLines, tuple_of};
@@ -29,6 +30,7 @@ pub fn fill(
     strides: &[usize],
     total: usize,
 ) -> Result<Table, AllocError>
+    requires reach { IsWithinReach (game_of game.now) }
     requires lists { AreAllChoices (game_of game.now) (lists_of lists.now) }
     requires strides { strides.now ≡ strides_of (lengths (lists_of lists.now)) }
     requires some { All (λ count. 0 < count) (lengths (lists_of lists.now)) }
@@ -58,6 +60,7 @@ fn push_tuple(
     n: usize,
     places: &[usize],
 ) -> Result<(), AllocError>
+    requires reach { IsWithinReach (game_of game.now) }
     requires lists { AreAllChoices (game_of game.now) (lists_of lists.now) }
     requires strides { strides.now ≡ strides_of (lengths (lists_of lists.now)) }
     requires few { n < 100000 }

@@ -2,7 +2,7 @@ use super::*;
 use smallvec::SmallVec;
 use std::test::Fail;
 use zr_base::Row;
-use zr_game::{CrossTerm, Player, Var};
+use zr_game::{CrossTerm, Other, Player, Var};
 
 fn bit(alloc: Global) -> Var {
     whole_var(alloc, 1)
@@ -12,6 +12,7 @@ fn whole_var(alloc: Global, up: i64) -> Var {
     Var {
         name: String::new(alloc),
         whole: true,
+        low: Some(0),
         up: Some(up),
     }
 }
@@ -34,6 +35,7 @@ fn penny(alloc: Global, other: u32, number: i64, shared: i64) -> Result<Player, 
         pairs: Vec::new(alloc),
         cost: SmallVec::from_slice(alloc, &[(0, number)])?,
         cross: vec![in alloc; cross_term(0, other, 0, shared)]?,
+        others: Vec::new(alloc),
     })
 }
 
@@ -60,6 +62,7 @@ fn packer(
             cross_term(0, other, 0, shared[0]),
             cross_term(1, other, 1, shared[1]),
         ]?,
+        others: Vec::new(alloc),
     })
 }
 
@@ -72,6 +75,7 @@ fn alone(alloc: Global, var: Var) -> Result<Player, Fail> {
         pairs: Vec::new(alloc),
         cost: SmallVec::from_slice(alloc, &[(0, -1)])?,
         cross: Vec::new(alloc),
+        others: Vec::new(alloc),
     })
 }
 
@@ -144,5 +148,23 @@ fn reach_ends_at_a_hundred_thousand(rt: HostRuntime) -> Result<(), Fail> {
     assert!(rt; is_within_reach(&last));
     let past = game_of(vec![in alloc; alone(alloc, whole_var(alloc, 100_000))?]?)?;
     assert!(rt; !is_within_reach(&past));
+    Ok(())
+}
+
+#[test]
+fn reach_ends_at_other_bounds_and_terms(rt: HostRuntime) -> Result<(), Fail> {
+    let alloc = rt.alloc();
+    let mut below = bit(alloc);
+    below.low = Some(-1);
+    let negative = game_of(vec![in alloc; alone(alloc, below)?]?)?;
+    assert!(rt; !is_within_reach(&negative));
+    let mut paying = alone(alloc, bit(alloc))?;
+    paying.others.push(Other {
+        first: (1, 0),
+        second: None,
+        coef: 1,
+    })?;
+    let two = game_of(vec![in alloc; paying, alone(alloc, bit(alloc))?]?)?;
+    assert!(rt; !is_within_reach(&two));
     Ok(())
 }

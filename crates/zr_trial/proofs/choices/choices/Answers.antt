@@ -5,6 +5,8 @@ use Rattle.zr_game.specs.Forms.{IsPlayer, IsVarForm}
 use Rattle.zr_game.proofs.Items.{found, one, read_below}
 use Rattle.zr_trial.specs.Numbering.{IsNumbering}
 use Rattle.zr_trial.specs.Choices.{value_counts}
+use Rattle.zr_trial.specs.Reach.{IsBoundedWhole}
+use Rattle.zr_trial.proofs.PlayerForms.{bounded_of}
 use Rattle.zr_trial.proofs.PointNumbers.{choices_within_profiles}
 use Rattle.zr_trial.proofs.choices.choices.Goals as goal
 use Rattle.zr_trial.proofs.choices.choices.Goals.{After-deref, After-index}
@@ -16,6 +18,13 @@ pub value_numbering-requires-clause-forms : goal.value_numbering-requires-clause
 value_numbering-requires-clause-forms c =
     let is = is_player ((goal.at.value_numbering-requires-clause-forms c).After-index) in
     subst (λ vs. All IsVarForm (map var_of vs)) (sym c.deref.ensures.value) (c.args.game.now.sound.players c.args.i (player_of c.index.result.now) is).vars
+
+pub value_numbering-requires-clause-bounded : goal.value_numbering-requires-clause-bounded
+value_numbering-requires-clause-bounded c =
+    let is = is_player ((goal.at.value_numbering-requires-clause-bounded c).After-index) in
+    let player = player_of c.index.result.now in
+    let bounded = bounded_of (game_of c.args.game.now) c.args.i player c.requires.reach is in
+    subst (λ vs. All IsBoundedWhole (map var_of vs)) (sym c.deref.ensures.value) bounded
 
 pub value_numbering-requires-clause-few : goal.value_numbering-requires-clause-few
 value_numbering-requires-clause-few c =

@@ -5,12 +5,13 @@ use Rattle.zr_base.specs.Fractions.{HaveSameCross, whole}
 use Rattle.zr_game.specs.Games.{game_of}
 use Rattle.zr_game.specs.Players.{PlayerOf, player_of}
 use Rattle.zr_game.specs.Forms.{AreTerms, IsCoefficient, IsPlayer, IsPlayerForm}
-use Rattle.zr_game.specs.Costs.{cost_of}
+use Rattle.zr_game.specs.Costs.{cost_of, value_at_place}
 use Rattle.zr_game.proofs.Items.{found, one, read_below}
 use Rattle.zr_trial.specs.Choices.{lists_of, picked}
+use Rattle.zr_trial.proofs.PlayerForms.{plain_of}
 use Rattle.zr_trial.proofs.SmallSteps.{few_terms}
 use Rattle.zr_trial.proofs.Lists.{lists_length}
-use Rattle.zr_trial.proofs.Picking.{cross_term_there, picked_choice, picked_whole, same_plus}
+use Rattle.zr_trial.proofs.Picking.{cross_term_there, no_rest, picked_choice, picked_whole, same_plus}
 use Rattle.zr_trial.proofs.costs.cost.Goals as goal
 use Rattle.zr_trial.proofs.costs.cost.Goals.{After-index-player, After-cross_cost}
 
@@ -60,5 +61,12 @@ returns c player is =
     let h : FitsSigned w128 (c.own_cost-own.result +ℤ c.cross_cost.result) = fits_signed_from_abs w128 _ (omega (arith, ints, c.own_cost-own.ensures.small, c.cross_cost.ensures.small)) in
     let own = rw (c.as_slice.ensures, c.point_at.ensures) at c.own_cost-own.ensures.exact in
     let cross = rw c.deref.ensures.value at c.cross_cost.ensures.exact in
-    let both : HaveSameCross (whole (c.own_cost-own.result +ℤ c.cross_cost.result)) (cost_of (player_of c.index-player.result.now) c.args.i points) = same_plus c.own_cost-own.result c.cross_cost.result _ _ own cross in
+    let here = player_of c.index-player.result.now in
+    let at = (goal.at.returns c).After-index-player in
+    let plain = plain_of (game_of c.args.game.now) c.args.i here c.requires.reach (is_player at) in
+    let sum = c.own_cost-own.result +ℤ c.cross_cost.result in
+    let two = same_plus c.own_cost-own.result c.cross_cost.result _ _ own cross in
+    let both : HaveSameCross (whole sum) (cost_of here c.args.i points) =
+      no_rest here (value_at_place points) sum _ plain.others two
+      in
     simp to_z-of_z (subst (λ (p : PlayerOf). HaveSameCross (whole (c.own_cost-own.result +ℤ c.cross_cost.result)) (cost_of p c.args.i points)) s both)
