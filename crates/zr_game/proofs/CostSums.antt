@@ -11,13 +11,13 @@ use Rattle.zr_base.specs.Lowest.{IsLowest, add_of}
 use Rattle.zr_base.specs.Points.{PointOf, value_of}
 use Rattle.zr_base.proofs.Divisors.{mul_positive, positive_factor}
 use Rattle.zr_base.proofs.SameLaws.{plus_same, same_through}
-use Rattle.zr_base.proofs.Sames.{plus_assoc, plus_left, same_record, sum_over-snoc, times_assoc, times_left, times_right}
+use Rattle.zr_base.proofs.Sames.{plus_assoc, plus_left, plus_right, same_record, sum_over-snoc, times_assoc, times_left, times_right}
 use Rattle.zr_base.proofs.SumSteps.{get_or_default, split_at}
 use Rattle.zr_base.proofs.Wholes.{lowest_whole}
 use Rattle.zr_game.specs.declared.player.CrossTerm.{CrossTerm}
 use Rattle.zr_game.specs.declared.player.Other.{Other}
 use Rattle.zr_game.specs.Players.{PlayerOf}
-use Rattle.zr_game.specs.Costs.{cost_of, own_at, point_of, rest_at, value_at_place}
+use Rattle.zr_game.specs.Costs.{cost_of, other_at, own_at, point_of, rest_at, value_at_place}
 use Rattle.zr_game.specs.CostSteps.{cost_steps, cross_term, other_term, own_term, sum_made, times_value}
 use Rattle.zr_game.specs.CostTerms.{cross_value, other_value}
 
@@ -41,6 +41,13 @@ module _ (f a b x : Fraction) where
     left = e.left;
     right = mul_positive x.den a.den h.right (last_factor e.right h.left);
     cross = times_left f a b x h.left e.cross h.cross;
+  }
+
+  pub plus_last : IsSame f (plus a b) → IsSame b x → IsSame f (plus a x)
+  plus_last e h = record {
+    left = e.left;
+    right = mul_positive a.den x.den (first_factor e.right h.left) h.right;
+    cross = plus_right f a b x h.left e.cross h.cross;
   }
 
   pub plus_first : IsSame f (plus b a) → IsSame b x → IsSame f (plus x a)
@@ -80,7 +87,7 @@ plus_none n d =
     ap (λ x. n *ℤ x) a ∙ ap (λ x. x *ℤ d) (sym b)
 
 -- a sum with nothing added
-same_plus_none : (f : Fraction) → IsLowest f → IsSame f (plus f (whole (pos 0)))
+pub same_plus_none : (f : Fraction) → IsLowest f → IsSame f (plus f (whole (pos 0)))
 same_plus_none f lowest = record {
   left = lowest.ratio.positive;
   right = mul_positive f.den (pos 1) lowest.ratio.positive (omega (arith, ints));
@@ -143,17 +150,16 @@ both_exact i points t a r same made =
     if_made r (times a other) (cross_value i points t) step made
 
 -- a term in the variables of two others
-module _ (points : List PointOf) (t : Other) (at : ℕ × ℕ) (first : Fraction) (two : t.second ≡ Some at) where
-  pub other_made : times_value (whole t.coef) (point_of points t.first.0) t.first.1 ≡ Ok first → times_value first (point_of points at.0) at.1 ≡ other_term points t
-  other_made e = rw (e, two) refl
+module _ (t : Other) (at : ℕ × ℕ) (first : Fraction) (two : t.second ≡ Some at) where
+  pub other_made : (points : List PointOf) → times_value (whole t.coef) (point_of points t.first.0) t.first.1 ≡ Ok first → times_value first (point_of points at.0) at.1 ≡ other_term points t
+  other_made points e = rw (e, two) refl
 
-  pub other_exact : (r : Result Fraction Wide) → IsSame first (times (whole t.coef) (value_at_place points t.first)) → IfOk r (λ f. IsSame f (times first (value_at_place points at))) → IfOk r (λ f. IsSame f (other_value points t))
-  other_exact r same made =
-      let one = times (whole t.coef) (value_at_place points t.first) in
-      let last = value_at_place points at in
-      let both = if_made r (times first last) (times one last) (λ f e. times_first f last first one e same) made in
-      let value = λ (o : Option (ℕ × ℕ)). option_map_or (λ at. times one (value_at_place points at)) o one in
-      subst (λ (o : Option (ℕ × ℕ)). IfOk r (λ f. IsSame f (value o))) (sym two) both
+  pub other_exact : (value : ℕ × ℕ → Fraction) (r : Result Fraction Wide) → IsSame first (times (whole t.coef) (value t.first)) → IfOk r (λ f. IsSame f (times first (value at))) → IfOk r (λ f. IsSame f (other_at value t))
+  other_exact value r same made =
+      let one = times (whole t.coef) (value t.first) in
+      let both = if_made r (times first (value at)) (times one (value at)) (λ f e. times_first f (value at) first one e same) made in
+      let joined = λ (o : Option (ℕ × ℕ)). option_map_or (λ at. times one (value at)) o one in
+      subst (λ (o : Option (ℕ × ℕ)). IfOk r (λ f. IsSame f (joined o))) (sym two) both
 
 module _ (player : PlayerOf) (i : ℕ) (points : List PointOf) where
   -- own terms that are too wide

@@ -72,6 +72,10 @@ pub record Bound : Type 0 where
   pub coef : ℕ → ℤ
   pub le : ℤ
 
+-- the row with these numbers
+abbrev pub bound_with : List ℤ → ℤ → Bound
+bound_with coef le = record { coef = λ j. slice_index_or coef j (pos 0); le = le }
+
 -- its left side at a point, times the denominator
 abbrev pub bound_value : PlayerOf → PointOf → (ℕ → ℤ) → ℤ
 bound_value player x coef = sum_to (length player.vars) (λ j. coef j *ℤ num_of x j)

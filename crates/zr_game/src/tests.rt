@@ -1,4 +1,5 @@
 ghost use Rattle.std.specs.Prelude.{◌≡◌, ℕ, ◌<◌, length, IfOk};
+ghost use Rattle.std.specs.List.{All};
 ghost use Rattle.zr_game.specs.Players.{PlayerOf, player_of};
 ghost use Rattle.zr_game.specs.Forms.{IsPlayer};
 ghost use Rattle.zr_game.specs.Games.{game_of};
@@ -131,6 +132,58 @@ fn costs_by_hand(rt: HostRuntime) -> Result<(), Fail> {
     assert_eq!(rt; (alike.num(), alike.den()), (1, 1));
     let thirds = first_cost(rt.alloc(), &game, [1, 1], [2, 1], 3)?;
     assert_eq!(rt; (thirds.num(), thirds.den()), (-2, 9));
+    Ok(())
+}
+
+/// The first player has terms in the others' variables, one in one and one in two.
+fn three(alloc: Global) -> Result<Game, Fail>
+    ensures players { IfOk result (λ game. length (game_of game) ≡ 3) }
+    ensures vars { IfOk result (λ game. (k : ℕ) (player : PlayerOf) → IsPlayer (game_of game) k player → length player.vars ≡ 2) }
+{
+    let mut first = packer(alloc, 1, [3, 4], [-1, -2], [2, 3])?;
+    first.others = vec![in alloc;
+        Other {
+            first: (1, 0),
+            second: None,
+            coef: 3
+        },
+        Other {
+            first: (1, 0),
+            second: Some((2, 1)),
+            coef: 2
+        },
+    ]?;
+    let second = packer(alloc, 0, [2, 5], [-3, -5], [5, 4])?;
+    let third = packer(alloc, 0, [2, 5], [-3, -5], [5, 4])?;
+    match Game::new(vec![in alloc; first, second, third]?) {
+        Ok(game) => Ok(game),
+        Err(_) => Err(Fail::from("no game")),
+    }
+}
+
+/// The first player's cost at these points.
+fn cost_at(game: &Game, points: &[Point]) -> Result<Frac, Fail>
+    requires players { length (game_of game.now) ≡ 3 }
+    requires vars { (k : ℕ) (player : PlayerOf) → IsPlayer (game_of game.now) k player → length player.vars ≡ 2 }
+    requires points { (length points.now ≡ 3) × All (λ x. length x.num ≡ 2) points.now }
+{
+    match cost(game, 0, points) {
+        Ok(cost) => Ok(cost),
+        Err(_) => Err(Fail::from("wide")),
+    }
+}
+
+#[test]
+fn costs_in_others_variables(rt: HostRuntime) -> Result<(), Fail> {
+    let alloc = rt.alloc();
+    let game = three(alloc)?;
+    let points = vec![in alloc;
+        pair_of_values(alloc, [1, 0], 2)?,
+        pair_of_values(alloc, [2, 0], 3)?,
+        pair_of_values(alloc, [0, 1], 1)?,
+    ]?;
+    let made = cost_at(&game, &points)?;
+    assert_eq!(rt; (made.num(), made.den()), (7, 2));
     Ok(())
 }
 

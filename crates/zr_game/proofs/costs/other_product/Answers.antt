@@ -3,7 +3,7 @@ use Rattle.std.specs.Int.{w64}
 use Rattle.std.proofs.lemmas.Int.{to_z-of_z}
 use Rattle.zr_base.specs.Fractions.{IsSame, times}
 use Rattle.zr_base.specs.Points.{PointOf, value_of}
-use Rattle.zr_game.specs.Costs.{own_at, point_of}
+use Rattle.zr_game.specs.Costs.{own_at, point_of, value_at_place}
 use Rattle.zr_game.specs.CostSteps.{own_term, times_value}
 use Rattle.zr_game.proofs.CostSums.{other_exact, other_made, point_is}
 use Rattle.zr_game.proofs.costs.other_product.Goals as goal
@@ -44,7 +44,7 @@ returns-in-Some-clause-steps c =
     let one = sym (subst (λ (p : PointOf). Ok first ≡ own_term p (t.first.1, t.coef)) x made) in
     let two = c.times_value_at.ensures.steps in
     let r = c.times_value_at.result in
-    subst (λ (p : PointOf). r ≡ times_value first p at.1) y two ∙ other_made points t at first c.in-Some.is one
+    subst (λ (p : PointOf). r ≡ times_value first p at.1) y two ∙ other_made t at first c.in-Some.is points one
 
 pub returns-in-Some-clause-exact : goal.returns-in-Some-clause-exact
 returns-in-Some-clause-exact c =
@@ -59,4 +59,4 @@ returns-in-Some-clause-exact c =
     let one = subst (λ (p : PointOf). IsSame first (own_at (value_of p) (t.first.1, t.coef))) x same in
     let r = c.times_value_at.result in
     let two = subst (λ (p : PointOf). IfOk r (λ f. IsSame f (times first (value_of p at.1)))) y c.times_value_at.ensures.exact in
-    other_exact points t at first c.in-Some.is r one two
+    other_exact t at first c.in-Some.is (value_at_place points) r one two
