@@ -197,14 +197,14 @@ module _ (game : GameOf) (form : IsGame game) (named : IsNamed game) (built : Al
 
   has_vars : (k : ℕ) (p : PlayerOf) → slice_get game k ≡ Some p → HasVars p
   has_vars k p at =
-    let f = form.players k p at in
-    let is = all_at IsBuilt game k p built at in
-    record {
-      some = f.some_var;
-      few = f.var_count;
-      forms = λ v d below. record { form = f.vars v d below; low = is.lows v d below };
-      names = var_names k p at;
-    }
+      let f = form.players k p at in
+      let is = all_at IsBuilt game k p built at in
+      record {
+        some = f.some_var;
+        few = f.var_count;
+        forms = λ v d below. record { form = f.vars v d below; low = is.lows v d below };
+        names = var_names k p at;
+      }
 
   has_body : (k : ℕ) (p : PlayerOf) → slice_get game k ≡ Some p → HasBody (names_of game) (variables_of game) k p
   has_body k p at =

@@ -57,8 +57,8 @@ up_keeps d up h = optional_keeps (λ up. ForSome up (λ z. (pos 0 ≤ℤ z) × (
 
 -- a variable from 0 on
 from_zero : (s : Name) (b : Bool) (up : Option ℤ) →
-  ForSome up (λ z. (pos 0 ≤ℤ z) × (z ≤ℤ number_limit)) →
-  IsVarForm (record { name = s; whole = b; low = Some (pos 0); up = up })
+    ForSome up (λ z. (pos 0 ≤ℤ z) × (z ≤ℤ number_limit)) →
+    IsVarForm (record { name = s; whole = b; low = Some (pos 0); up = up })
 from_zero s b up h = record {
   low = λ z e. let zero : pos 0 ≡ z = cc in subst IsNumber zero (omega (arith, ints), omega (arith, ints));
   up = λ z e. let is = h z e in (omega (arith, ints), omega (arith, ints));
@@ -75,8 +75,8 @@ variable_ok before d v h =
     let u = bind_ok (optional (codes "up") None bound_in d) _ v b.2 in
     let e : record { name = n.0; whole = b.0; low = Some (pos 0); up = u.0 } ≡ v = cc (u.2) in
     let form : IsVarForm (record { name = n.0; whole = b.0; low = Some (pos 0); up = u.0 }) =
-      from_zero n.0 b.0 u.0 (up_keeps d u.0 u.1)
-      in
+    from_zero n.0 b.0 u.0 (up_keeps d u.0 u.1)
+    in
     subst (λ v. IsNewName before v.name × IsVarForm v) e (new_name_ok before at.0 n.0 at.1, form)
 
 -- variables within their bounds and with names by the rule

@@ -153,8 +153,8 @@ unfolding serde_json_on_literals
 int_of_variable v = refl
 
 up_of_variable : (b : Bool) (s : Name) (low o : Option ℤ) →
-  ForSome o (λ z. (pos 0 ≤ℤ z) × (z ≤ℤ number_limit)) →
-  optional (codes "up") None bound_in
+    ForSome o (λ z. (pos 0 ≤ℤ z) × (z ≤ℤ number_limit)) →
+    optional (codes "up") None bound_in
     (variable_data (record { name = s; whole = b; low = low; up = o })) ≡ Ok o
 unfolding serde_json_on_literals
 up_of_variable b s low None h = refl
@@ -163,8 +163,8 @@ up_of_variable b s low (Some z) h = rw (whole_back (pos 0) z (h z refl).0 (h z r
 variable_back : (before : List Name) (v : VarOf) → IsNewName before v.name × IsFirstVar v → variable_in before (variable_data v) ≡ Ok v
 variable_back before v h =
     let up : ForSome v.up (λ z. (pos 0 ≤ℤ z) × (z ≤ℤ number_limit)) =
-      λ z e. (h.1.form.ordered (pos 0) h.1.low z e, (h.1.form.up z e).1)
-      in
+    λ z e. (h.1.form.ordered (pos 0) h.1.low z e, (h.1.form.up z e).1)
+    in
     let first : VarOf = record { name = v.name; whole = v.whole; low = Some (pos 0); up = v.up } in
     let same : Ok first ≡ Ok v = ap (λ low. Ok (record v { low = low })) (sym h.1.low) in
     bind_to (needed (codes "name") (new_name_in before) (variable_data v)) v.name (λ name. variable_named name (variable_data v)) (name_of_variable before v h.0)

@@ -1,5 +1,5 @@
 -- What the bytes of a game's text stand for.
-use Rattle.std.specs.Prelude.{◌≡◌, ℕ, ℤ, pos, Bool, true, false, ◌||◌, not, List, [], Option, Some, None, Result, Ok, Err, codes, string_bytes, IsUtf8, ◌⊎◌}
+use Rattle.std.specs.Prelude.{◌≡◌, ℕ, pos, Bool, true, false, ◌||◌, not, List, [], Option, Some, None, Result, Ok, Err, codes, string_bytes, IsUtf8, ◌⊎◌}
 use Rattle.std.specs.List.{All}
 use Rattle.serde_json.specs.Data.{Data, null, boolean, number, string, array, object, Items, no_items, item}
 use Rattle.serde_json.specs.Find.{get}
@@ -32,7 +32,7 @@ is_unread (Some d) = not (is_empty_list d)
 
 abbrev pub is_unbuilt_player : Data → Bool
 is_unbuilt_player d =
-  is_unread (get (codes "pairs") d)
+    is_unread (get (codes "pairs") d)
     || is_unread (get (codes "followers") d)
     || is_unread (get (codes "others") d)
 

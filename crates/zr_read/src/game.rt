@@ -98,9 +98,7 @@ fn has_unread(object: &Value, name: &str) -> bool
 fn is_unbuilt_player(player: &Value) -> bool
     ensures { result ≡ is_unbuilt_player (view player.now) }
 {
-    has_unread(player, "pairs")
-        || has_unread(player, "followers")
-        || has_unread(player, "others")
+    has_unread(player, "pairs") || has_unread(player, "followers") || has_unread(player, "others")
 }
 
 /// Whether some player of a list has parts that are not read yet.
