@@ -2,11 +2,12 @@
 use Rattle.std.specs.Prelude.{ℕ, List}
 use Rattle.std.specs.Coded.{codes}
 use Rattle.zr_base.specs.Fractions.{Fraction}
+use Rattle.zr_base.specs.Lowest.{IsLowest}
 use Rattle.zr_game.specs.Profiles.{Part}
 use Rattle.zr_tree.specs.FormLaws.{IsTree-prop}
 use Rattle.zr_tree.specs.Nodes.{NodeOf, SplitNode, ChooseNode, ProofNode, KnownNode, LooseNode}
 use Rattle.zr_cert.specs.Certs.{BoundOf, CertOf, EmptyVerdict, MixtureOf, ProfileVerdict, VerdictOf}
-use Rattle.zr_cert.specs.Forms.{IsBoundForm, IsBoundNode, IsCert, IsCostForm, IsEmptyNode, IsMixtureForm, IsPartForm, IsTreeWith, IsVerdictForm}
+use Rattle.zr_cert.specs.Forms.{IsBoundForm, IsBoundNode, IsCert, IsEmptyNode, IsMixtureForm, IsPartForm, IsTreeWith, IsVerdictForm}
 
 part_prop : (part : Part) → IsProp (IsPartForm part)
 part_prop part = hlevel codes
@@ -14,7 +15,7 @@ part_prop part = hlevel codes
 mixture_prop : (m : MixtureOf) → IsProp (IsMixtureForm m)
 mixture_prop m = hlevel (codes, part_prop)
 
-cost_prop : (f : Fraction) → IsProp (IsCostForm f)
+cost_prop : (f : Fraction) → IsProp (IsLowest f)
 cost_prop f = hlevel codes
 
 bound_node_prop : (node : NodeOf) → IsProp (IsBoundNode node)

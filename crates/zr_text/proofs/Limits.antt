@@ -1,15 +1,19 @@
 -- The tests of numbers, and what they say.
 use Rattle.std.proofs.Common.{◌≡◌, ℕ, ◌^◌, ◌<◌, Bool, true, false, ◌==◌, sym, refl, ap, ◌∙◌, subst, arith, ℤ, pos, ◌≤ℤ◌, ◌<ℤ◌, List}
-use Rattle.std.specs.Prelude.{◌&&◌, ◌||◌, not, int_le, nat_lt, unsigned_abs}
+use Rattle.std.specs.Prelude.{◌&&◌, ◌||◌, not, int_le, unsigned_abs}
 use Rattle.std.specs.List.{All, AllByRecursion}
 use Rattle.std.proofs.lemmas.Bool.{eq-eqb, eqb-true, lt-ltb, ltb-true}
 use Rattle.std.proofs.lemmas.Int.{ints}
+use Rattle.std.proofs.Math.Nat.{eq-one_of_dvd-one}
+use Rattle.std.specs.Int.{IsGcd}
 use Rattle.std.proofs.lemmas.List.Elements.{All-from_recursion, recursion_from_All}
 use Rattle.zr_base.specs.Lowest.{gcd_of}
+use Rattle.zr_base.proofs.Gcds.{gcd_of_is}
 use Rattle.zr_base.specs.Steps.{IsNarrow}
 use Rattle.zr_cert.specs.Forms.{IsWeight}
 use Rattle.zr_form.specs.Bounds.{Passes, is_index, is_narrow, is_positive}
 use Rattle.zr_form.proofs.Words.{both_true}
+use Rattle.zr_tree.specs.Form.{greatest_split, least_split}
 use Rattle.zr_text.specs.Fits.{is_at, is_lowest, is_scale}
 use Rattle.zr_text.proofs.Looser.{each}
 
@@ -51,17 +55,14 @@ above_zero z h = omega (arith, ints)
 pub from_one : (z : ℤ) → (pos 0) <ℤ z → (pos 1) ≤ℤ z
 from_one z h = omega (arith, ints)
 
-pub at_told : (z : ℤ) → Passes (is_at true) z → ((pos 0) ≤ℤ z) × (z ≤ℤ pos 4611686018427387903)
+pub at_told : (z : ℤ) → Passes (is_at true) z → (least_split ≤ℤ z) × (z ≤ℤ greatest_split)
 at_told z p =
-    let h = both_true (nat_lt (unsigned_abs z) (2 ^ 62)) (int_le (pos 0) z) p in
-    let low : (pos 0) ≤ℤ z = le_told (pos 0) z h.1 in
-    let high : unsigned_abs z < 2 ^ 62 = ltb-true (unsigned_abs z) (2 ^ 62) h.0 in
-    (low, omega (arith, ints))
+    let h = both_true (int_le least_split z) (int_le z greatest_split) p in
+    (le_told least_split z h.0, le_told z greatest_split h.1)
 
-pub at_tells : (z : ℤ) → (pos 0) ≤ℤ z → z ≤ℤ pos 4611686018427387903 → Passes (is_at true) z
+pub at_tells : (z : ℤ) → least_split ≤ℤ z → z ≤ℤ greatest_split → Passes (is_at true) z
 at_tells z low high =
-    let h : unsigned_abs z < 2 ^ 62 = omega (arith, ints) in
-    both (nat_lt (unsigned_abs z) (2 ^ 62)) (int_le (pos 0) z) (lt-ltb (unsigned_abs z) (2 ^ 62) h) (le_tells (pos 0) z low)
+    both (int_le least_split z) (int_le z greatest_split) (le_tells least_split z low) (le_tells z greatest_split high)
 
 pub scale_told : (refuting : Bool) (z : ℤ) → Passes (is_scale true refuting) z → ((pos 0) ≤ℤ z) × IsNarrow z
 scale_told refuting z p =
@@ -89,6 +90,9 @@ lowest_told num den n d e = eqb-true (gcd_of (unsigned_abs num) (unsigned_abs de
 or_true : (a b : Bool) → b ≡ true → (a || b) ≡ true
 or_true true b e = refl
 or_true false b e = e
+
+pub coprime_gcd : (a b : ℕ) → IsGcd a b 1 → gcd_of a b ≡ 1
+coprime_gcd a b h = let is = gcd_of_is a b in eq-one_of_dvd-one (h.2 (gcd_of a b) is.0 is.1)
 
 pub lowest_tells : (num den : ℤ) → gcd_of (unsigned_abs num) (unsigned_abs den) ≡ 1 → is_lowest num den ≡ true
 lowest_tells num den e = or_true (not (is_narrow true num && is_narrow true den)) (gcd_of (unsigned_abs num) (unsigned_abs den) == 1) (eq-eqb (gcd_of (unsigned_abs num) (unsigned_abs den)) 1 e)

@@ -36,11 +36,13 @@ pub index_missing : (left : Option (Bor Bytes)) → TakesField natural left None
 unfolding natural_read
 index_missing left h = none_taken natural (is_index false) left h
 
-pub at_found : (left : Option (Bor Bytes)) (field : Bor Bytes) (rest : Option (Bor Bytes)) → TakesField natural left (Some (field, rest)) → (z : ℤ) × (integer_read (is_at false) (left_of (option_copied left)) ≡ Ok (z, left_of (option_copied rest)))
-at_found left field rest h = let n = taken_number natural left field rest h in (pos n.0, above_passes (is_at false) left field rest n.0 h n.1 (le-leb 0 n.0 (omega arith)))
+pub at_found : (left : Option (Bor Bytes)) (field : Bor Bytes) (rest : Option (Bor Bytes)) → TakesField integer left (Some (field, rest)) → (z : ℤ) × (integer_read (is_at false) (left_of (option_copied left)) ≡ Ok (z, left_of (option_copied rest)))
+unfolding integer_read
+at_found left field rest h = let n = taken_number integer left field rest h in (n.0, taken_passes integer (is_at false) left field rest n.0 h n.1 refl)
 
-pub at_missing : (left : Option (Bor Bytes)) → TakesField natural left None → integer_read (is_at false) (left_of (option_copied left)) ≡ Err (left_of (option_copied left))
-at_missing left h = none_above (is_at false) left (λ n. refl) h
+pub at_missing : (left : Option (Bor Bytes)) → TakesField integer left None → integer_read (is_at false) (left_of (option_copied left)) ≡ Err (left_of (option_copied left))
+unfolding integer_read
+at_missing left h = none_taken integer (is_at false) left h
 
 pub positive_found : (left : Option (Bor Bytes)) (field : Bor Bytes) (rest : Option (Bor Bytes)) → TakesField positive left (Some (field, rest)) → (z : ℤ) × (integer_read (is_positive false) (left_of (option_copied left)) ≡ Ok (z, left_of (option_copied rest)))
 unfolding integer_read

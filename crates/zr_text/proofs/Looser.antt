@@ -30,7 +30,7 @@ multiplier : (t : ℕ × ℤ) → FitsMultiplier true t → FitsMultiplier false
 multiplier t f = (refl, positive t.1 f.1)
 
 pub node : (refuting : Bool) (n : NodeOf) → FitsNode true refuting n → FitsNode false refuting n
-node refuting (SplitNode v at) f = (refl, second _ _ f.1)
+node refuting (SplitNode v at) f = (refl, refl)
 node refuting (ChooseNode p) f = refl
 node refuting (ProofNode scale mult) f = record { scale = second _ _ f.scale; count = refl; each = each (FitsMultiplier true) (FitsMultiplier false) multiplier mult f.each; ascends = f.ascends }
 node refuting (KnownNode x) f = absurd f

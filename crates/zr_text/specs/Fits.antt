@@ -1,10 +1,10 @@
 -- Which certificates have a text. Where `strict` is false the upper bounds of numbers are left out.
-use Rattle.std.specs.Prelude.{◌≡◌, ℕ, ◌+◌, ◌^◌, ◌<◌, ℤ, pos, unsigned_abs, int_le, List, [], ◌∷◌, length, Bool, true, false, not, ◌&&◌, ◌||◌, ◌==◌, nat_le}
+use Rattle.std.specs.Prelude.{◌≡◌, ℕ, ◌+◌, ◌<◌, ℤ, pos, unsigned_abs, int_le, List, [], ◌∷◌, length, Bool, true, false, not, ◌&&◌, ◌||◌, ◌==◌, nat_le}
 use Rattle.std.specs.List.{AllByRecursion}
 use Rattle.zr_base.specs.Fractions.{Fraction}
 use Rattle.zr_base.specs.Lowest.{gcd_of}
 use Rattle.zr_game.specs.Profiles.{Part}
-use Rattle.zr_tree.specs.Form.{child_count}
+use Rattle.zr_tree.specs.Form.{child_count, greatest_split, least_split}
 use Rattle.zr_tree.specs.Nodes.{Multipliers, NodeOf, SplitNode, ChooseNode, ProofNode, KnownNode, LooseNode}
 use Rattle.zr_cert.specs.Certs.{BoundOf, CertOf, EmptyVerdict, MixtureOf, ProfileVerdict, VerdictOf}
 use Rattle.zr_form.specs.Bounds.{Passes, below, is_count, is_index, is_narrow, is_positive}
@@ -23,9 +23,9 @@ pub record FitsMixture (strict : Bool) (m : MixtureOf) : Type 0 where
   pub count : Passes (is_count strict) (length m.parts)
   pub parts : AllByRecursion (FitsPart strict) m.parts
 
--- a number that a variable is split at
+-- a number that a variable is split at, from -2^62 to 2^62 - 1
 abbrev pub is_at : Bool → ℤ → Bool
-is_at strict z = below strict (2 ^ 62) (unsigned_abs z) && int_le (pos 0) z
+is_at strict z = not strict || (int_le least_split z && int_le z greatest_split)
 
 -- A scale is at least 0. In a refuting tree, that of an empty player, each scale is 0.
 abbrev pub is_scale : Bool → Bool → ℤ → Bool

@@ -33,7 +33,7 @@ pub(crate) fn after_natural(left: Option<&[u8]>) -> Option<Option<&[u8]>>
 pub(crate) fn after_at(left: Option<&[u8]>) -> Option<Option<&[u8]>>
     ensures { TakesAny left.entry result (integer_read (is_at false) (left_of (option_copied left.entry))) }
 {
-    let (_, rest) = any_natural(left)?;
+    let (_, rest) = any_integer(left)?;
     Some(rest)
 }
 

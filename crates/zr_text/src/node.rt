@@ -16,15 +16,17 @@ use std::alloc::{AllocError, Global};
 use zr_form::{LineFault, next_field, positive, signed, small};
 use zr_tree::Node;
 
-/// The numbers that a variable is split at are below this.
-const AT_LIMIT: i128 = 1 << 62;
+/// The least number that a variable is split at, and the greatest.
+const LEAST_SPLIT: i128 = -4_611_686_018_427_387_904;
+
+const GREATEST_SPLIT: i128 = 4_611_686_018_427_387_903;
 
 /// A number that a variable is split at.
 fn at(left: Option<&[u8]>) -> Option<(i64, Option<&[u8]>)>
     ensures { Takes (λ z. z) left.entry result (integer_read (is_at true) (left_of (option_copied left.entry))) }
 {
     let (n, rest) = signed(left)?;
-    if n < 0 || n >= AT_LIMIT {
+    if n < LEAST_SPLIT || n > GREATEST_SPLIT {
         return None;
     }
     Some((n as i64, rest))

@@ -94,7 +94,7 @@ fn reads_an_empty_player(rt: HostRuntime) {
 #[test]
 fn the_first_line_out_of_form_is_told(rt: HostRuntime) -> Result<(), Fail> {
     use TextError::{NotCert, NumberTooBig};
-    let table: [(usize, &str, TextError); 14] = [
+    let table: [(usize, &str, TextError); 16] = [
         (1, "zero-cert/2", NotCert(1)),
         (2, "kind mixed 17", NumberTooBig(2)),
         (2, "kind mixed 0", NotCert(2)),
@@ -116,6 +116,8 @@ fn the_first_line_out_of_form_is_told(rt: HostRuntime) -> Result<(), Fail> {
             NotCert(11),
         ),
         (11, "leaf 1 1 0 1 1 1", NotCert(11)),
+        (11, "split 0 -4611686018427387904", NotCert(12)),
+        (11, "split 0 -4611686018427387905", NumberTooBig(11)),
         (14, "end\nend", NotCert(15)),
     ];
     for (number, line, fault) in table {
