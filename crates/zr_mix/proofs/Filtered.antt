@@ -5,10 +5,12 @@ use Rattle.std.proofs.Math.ListN.{drop_of_length-le}
 use Rattle.std.proofs.lemmas.Int.{ints}
 use Rattle.zr_base.specs.declared.step.Wide.{Wide}
 use Rattle.zr_base.specs.Steps.{◌>>=◌}
-use Rattle.zr_base.specs.Fractions.{Fraction, HaveSameCross, plus, sum_over, whole}
+use Rattle.zr_base.specs.Fractions.{Fraction, IsSame, plus, sum_over, whole}
 use Rattle.zr_base.specs.Lowest.{IsLowest, add_of}
-use Rattle.zr_base.proofs.Sames.{plus_assoc, plus_left, same_record}
+use Rattle.zr_base.proofs.SameLaws.{same_refl}
+use Rattle.zr_base.proofs.Sames.{plus_assoc, same_record}
 use Rattle.zr_game.specs.CostSteps.{sum_made}
+use Rattle.zr_game.proofs.CostSums.{plus_first}
 
 module _ {A : Type 0} (make : A → Result Fraction Wide) (s : Fraction) (x : A) (ys : List A) where
   last_ok : (r : Result Fraction Wide) (next : Fraction) → (r >>= λ z. Ok z) ≡ Ok next → (r >>= λ z. sum_made make z ys) ≡ sum_made make next ys
@@ -49,7 +51,7 @@ split_sum g s x ys false = ap (λ z. plus z (sum_over ys g)) (plus_none s)
 -- what is left to be made from the item of number i on
 pub record Onward {A : Type 0} (make : A → Result Fraction Wide) (g : A → Fraction) (test : A → Bool) (start : Fraction) (xs : List A) (i : ℕ) (sum : Fraction) : Type 0 where
   pub steps : sum_made make start (filter test xs) ≡ sum_made make sum (filter test (drop i xs))
-  pub exact : (f : Fraction) → HaveSameCross f (plus sum (sum_over (filter test (drop i xs)) g)) → HaveSameCross f (plus start (sum_over (filter test xs) g))
+  pub exact : (f : Fraction) → IsSame f (plus sum (sum_over (filter test (drop i xs)) g)) → IsSame f (plus start (sum_over (filter test xs) g))
   pub lowest : IsLowest sum
 
 module _ {A : Type 0} (make : A → Result Fraction Wide) (g : A → Fraction) (test : A → Bool) (start : Fraction) (xs : List A) where
@@ -57,7 +59,7 @@ module _ {A : Type 0} (make : A → Result Fraction Wide) (g : A → Fraction) (
   none_onward lowest = record { steps = refl; exact = λ f e. e; lowest = lowest }
 
   module _ (i : ℕ) (d : A) (here : i < length xs) (sum : Fraction) (before : Onward make g test start xs i sum) where
-    pub more_onward : (next : Fraction) → sum_made make sum (filter test (get_or xs i d ∷ [])) ≡ Ok next → HaveSameCross next (plus sum (sum_over (filter test (get_or xs i d ∷ [])) g)) → IsLowest next → Onward make g test start xs (i + 1) next
+    pub more_onward : (next : Fraction) → sum_made make sum (filter test (get_or xs i d ∷ [])) ≡ Ok next → IsSame next (plus sum (sum_over (filter test (get_or xs i d ∷ [])) g)) → IsLowest next → Onward make g test start xs (i + 1) next
     more_onward next made same lowest =
         let x = get_or xs i d in
         let ys = filter test (drop (suc i) xs) in
@@ -65,7 +67,7 @@ module _ {A : Type 0} (make : A → Result Fraction Wide) (g : A → Fraction) (
         let n : suc i ≡ i + 1 = omega arith in
         let all : Onward make g test start xs (suc i) next = record {
           steps = before.steps ∙ ap (sum_made make sum) cut ∙ step_ok make sum x ys (test x) next made;
-          exact = λ f e. before.exact f (subst (λ (zs : List A). HaveSameCross f (plus sum (sum_over zs g))) (sym cut) (subst (λ (z : Fraction). HaveSameCross f z) (split_sum g sum x ys (test x)) (plus_left f (sum_over ys g) next (plus sum (sum_over (cond (test x) (x ∷ []) []) g)) lowest.ratio.positive e same)));
+          exact = λ f e. before.exact f (subst (λ (zs : List A). IsSame f (plus sum (sum_over zs g))) (sym cut) (subst (λ (z : Fraction). IsSame f z) (split_sum g sum x ys (test x)) (plus_first f (sum_over ys g) next (plus sum (sum_over (cond (test x) (x ∷ []) []) g)) e same)));
           lowest = lowest;
         } in
         subst (λ k. Onward make g test start xs k next) n all
@@ -75,8 +77,8 @@ module _ {A : Type 0} (make : A → Result Fraction Wide) (g : A → Fraction) (
         let x = get_or xs i d in
         before.steps ∙ ap (λ ys. sum_made make sum (filter test ys)) (drop-cons xs i d here) ∙ step_wide make sum x (filter test (drop (suc i) xs)) (test x) w made
 
-  pub all_onward : (i : ℕ) (sum : Fraction) → length xs ≤ i → Onward make g test start xs i sum → (sum_made make start (filter test xs) ≡ Ok sum) × HaveSameCross sum (plus start (sum_over (filter test xs) g))
+  pub all_onward : (i : ℕ) (sum : Fraction) → length xs ≤ i → Onward make g test start xs i sum → (sum_made make start (filter test xs) ≡ Ok sum) × IsSame sum (plus start (sum_over (filter test xs) g))
   all_onward i sum done all =
       let none = drop_of_length-le xs done in
       let last = ap (λ (ys : List A). plus sum (sum_over (filter test ys) g)) none ∙ plus_none sum in
-      (all.steps ∙ ap (λ (ys : List A). sum_made make sum (filter test ys)) none, all.exact sum (subst (λ (z : Fraction). HaveSameCross sum z) (sym last) refl))
+      (all.steps ∙ ap (λ (ys : List A). sum_made make sum (filter test ys)) none, all.exact sum (subst (λ (z : Fraction). IsSame sum z) (sym last) (same_refl sum all.lowest.ratio.positive)))

@@ -1,11 +1,10 @@
-pub mod Lists
 pub mod Scaling
 pub mod Shares
-pub mod Lcm
 pub mod Multiples
 pub mod Negated
 pub mod Products
 pub mod Claiming
 pub mod Filtered
 pub mod Places
+pub mod Rests
 pub mod Checking

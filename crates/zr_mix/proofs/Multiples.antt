@@ -13,12 +13,12 @@ use Rattle.zr_base.specs.Fractions.{Fraction}
 use Rattle.zr_base.specs.Lowest.{gcd_of}
 use Rattle.zr_base.proofs.CrossLaws.{cross_ok}
 use Rattle.zr_base.proofs.Divisors.{mul_positive, positive_factor, quot_exact}
+use Rattle.zr_base.proofs.Lcm.{least_more}
 use Rattle.zr_base.proofs.Ring.{spread, mul_assoc}
 use Rattle.zr_game.specs.Feasible.{IsMultiple}
 use Rattle.zr_mix.specs.Claims.{IsLeastMultiple, IsMultipleOf}
 use Rattle.zr_mix.specs.Multiples.{IsLcm, IsLcmOf}
 use Rattle.zr_mix.specs.Steps.{multiple_steps}
-use Rattle.zr_mix.proofs.Lcm.{least_more}
 
 pub divides_multiple : (n d : ℤ) → IsMultiple n d → unsigned_abs d ∣ unsigned_abs n
 divides_multiple n d m =

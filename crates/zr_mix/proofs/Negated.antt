@@ -1,14 +1,15 @@
 -- Numbers over a common multiple, negated.
-use Rattle.std.proofs.Common.{◌≡◌, ℕ, suc, ◌+◌, ◌<◌, arith, refl, ap, ◌∙◌, ℤ, pos, neg_ℤ, ◌-ℤ◌, ◌*ℤ◌, int_div, Result, Ok, Err, IfOk, List, [], ◌∷◌, length, get_or}
+use Rattle.std.proofs.Common.{◌≡◌, ℕ, suc, ◌+◌, ◌<◌, arith, refl, ap, ◌∙◌, ℤ, pos, neg_ℤ, ◌-ℤ◌, ◌*ℤ◌, ◌<ℤ◌, int_div, Result, Ok, Err, IfOk, List, [], ◌∷◌, length, get_or}
 use Rattle.std.proofs.lemmas.Int.{ints}
 use Rattle.zr_base.specs.declared.step.Wide.{Wide}
 use Rattle.zr_base.specs.Fractions.{Fraction}
 use Rattle.zr_base.proofs.CrossLaws.{cross_ok}
-use Rattle.zr_base.proofs.Divisors.{quot_exact}
+use Rattle.zr_base.proofs.Divisors.{mul_positive, quot_exact}
 use Rattle.zr_base.proofs.Ring.{spread}
+use Rattle.zr_base.specs.Made.{made_from}
 use Rattle.zr_mix.specs.Claims.{IsMultipleOf}
 use Rattle.zr_mix.specs.Multiples.{IsNegatedOver}
-use Rattle.zr_mix.specs.Steps.{all_negated, made_from, negated_over}
+use Rattle.zr_mix.specs.Steps.{all_negated, negated_over}
 use Rattle.zr_mix.proofs.Multiples.{divides_multiple}
 
 same_negated : (m n d q x : ℤ) → q *ℤ d ≡ m → x ≡ neg_ℤ n *ℤ q -ℤ pos 0 *ℤ pos 0 → (m *ℤ n) *ℤ pos 1 ≡ neg_ℤ x *ℤ (pos 1 *ℤ d)
@@ -18,10 +19,16 @@ same_negated m n d q x e f =
     let l : (m *ℤ n) *ℤ pos 1 ≡ m *ℤ n = omega (arith, ints) in
     rw (one, l, f2, ← e) (simp spread (omega (arith, ints)))
 
-pub negated_exact : (m : ℤ) (f : Fraction) → IsMultipleOf m f → (r : Result ℤ Wide) → r ≡ negated_over m f → IfOk r (IsNegatedOver m f)
-negated_exact m f multiple (Ok x) e =
-    same_negated m f.num f.den (int_div m f.den) x (quot_exact m f.den (divides_multiple m f.den multiple)) (cross_ok (neg_ℤ f.num, int_div m f.den) (pos 0, pos 0) x e).0
-negated_exact m f multiple (Err w) e = tt
+pub negated_exact : (m : ℤ) (f : Fraction) → (pos 0) <ℤ f.den → IsMultipleOf m f → (r : Result ℤ Wide) → r ≡ negated_over m f → IfOk r (IsNegatedOver m f)
+negated_exact m f positive multiple (Ok x) e =
+    let q = int_div m f.den in
+    let exact = quot_exact m f.den (divides_multiple m f.den multiple) in
+    record {
+      left = mul_positive (pos 1) f.den (omega (arith, ints)) positive;
+      right = omega (arith, ints);
+      cross = same_negated m f.num f.den q x exact (cross_ok (neg_ℤ f.num, q) (pos 0, pos 0) x e).0;
+    }
+negated_exact m f positive multiple (Err w) e = tt
 
 -- the list of them is made item by item
 pub negated_made : (m : ℤ) (d : Fraction) (all xs : List Fraction) (k : ℕ) → ((v : ℕ) → v < length xs → get_or all (k + v) d ≡ get_or xs v d) → all_negated m xs ≡ made_from (λ v. negated_over m (get_or all v d)) k (length xs)

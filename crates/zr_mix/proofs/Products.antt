@@ -4,10 +4,9 @@ use Rattle.std.specs.List.{zip}
 use Rattle.std.proofs.lemmas.Int.{ints}
 use Rattle.std.proofs.lemmas.Slice.Zip.{get_or-zip, length-zip}
 use Rattle.zr_base.specs.declared.step.Wide.{Wide}
-use Rattle.zr_base.specs.Fractions.{Fraction, HaveSameCross, plus, sum_below, times, whole}
+use Rattle.zr_base.specs.Fractions.{Fraction, IsSame, plus, sum_below, times, whole}
 use Rattle.zr_base.specs.Lowest.{IsLowest, add_of, mul_of}
-use Rattle.zr_base.proofs.Divisors.{mul_positive}
-use Rattle.zr_base.proofs.Sames.{plus_left, plus_right, same_trans, times_left, times_right}
+use Rattle.zr_base.proofs.SameLaws.{plus_same, same_refl, same_through, sum_below_same, times_same}
 use Rattle.zr_game.proofs.CostSums.{Summed, all_summed, more_summed, none_summed, wide_sum, wide_term, zero_lowest}
 use Rattle.zr_mix.specs.Steps.{value_steps}
 use Rattle.zr_mix.specs.Values.{AreReduced, IsReduced, item_of}
@@ -21,11 +20,11 @@ product_of p = times p.0 p.1
 -- the sum of the first v products
 pub record ValueOf (slope mean : List Fraction) (v : ℕ) (sum : Fraction) : Type 0 where
   pub summed : Summed product_made product_of (whole (pos 0)) (take v (zip slope mean)) sum
-  pub exact : HaveSameCross sum (sum_below v (λ k. times (item_of slope k) (item_of mean k)))
+  pub exact : IsSame sum (sum_below v (λ k. times (item_of slope k) (item_of mean k)))
 
 module _ (slope mean : List Fraction) where
   pub none_of : ValueOf slope mean 0 (whole (pos 0))
-  none_of = record { summed = none_summed product_made product_of (whole (pos 0)) zero_lowest; exact = refl }
+  none_of = record { summed = none_summed product_made product_of (whole (pos 0)) zero_lowest; exact = same_refl (whole (pos 0)) (omega (arith, ints)) }
 
   module _ (v : ℕ) (sum : Fraction) (before : ValueOf slope mean v sum) (lens : length slope ≡ length mean) (here : v < length slope) where
     in_zip : v < length (zip slope mean)
@@ -34,15 +33,17 @@ module _ (slope mean : List Fraction) where
     item_is : get_or (zip slope mean) v (whole (pos 0), whole (pos 0)) ≡ (item_of slope v, item_of mean v)
     item_is = get_or-zip slope mean v (whole (pos 0), whole (pos 0)) here (omega arith)
 
-    pub more_of : (a next : Fraction) → Ok a ≡ mul_of (item_of slope v) (item_of mean v) → HaveSameCross a (times (item_of slope v) (item_of mean v)) → IsLowest a → Ok next ≡ add_of sum a → HaveSameCross next (plus sum a) → IsLowest next → ValueOf slope mean (v + 1) next
-    more_of a next made same lowest adds e next_lowest =
-        let s = sum_below v (λ k. times (item_of slope k) (item_of mean k)) in
-        let x = times (item_of slope v) (item_of mean v) in
-        let right = plus_right next sum a x lowest.ratio.positive e same in
+    pub more_of : (a next : Fraction) → Ok a ≡ mul_of (item_of slope v) (item_of mean v) → IsSame a (times (item_of slope v) (item_of mean v)) → Ok next ≡ add_of sum a → IsSame next (plus sum a) → IsLowest next → ValueOf slope mean (v + 1) next
+    more_of a next made same adds e next_lowest =
+        let product = λ (k : ℕ). times (item_of slope k) (item_of mean k) in
+        let s = sum_below v product in
+        let both = plus_same sum a s (product v) before.exact same in
         let n : suc v ≡ v + 1 = omega arith in
+        let zeros : Fraction × Fraction = (whole (pos 0), whole (pos 0)) in
+        let same_item = subst (λ (p : Fraction × Fraction). IsSame a (product_of p)) (sym item_is) same in
         record {
-          summed = more_summed product_made product_of (whole (pos 0)) (zip slope mean) v (whole (pos 0), whole (pos 0)) in_zip sum before.summed a next (ap product_made item_is ∙ sym made) (subst (λ (p : Fraction × Fraction). HaveSameCross a (product_of p)) (sym item_is) same) lowest (sym adds) e next_lowest;
-          exact = subst (λ k. HaveSameCross next (sum_below k (λ j. times (item_of slope j) (item_of mean j)))) n (plus_left next x sum s before.summed.lowest.ratio.positive right before.exact);
+          summed = more_summed product_made product_of (whole (pos 0)) (zip slope mean) v zeros in_zip sum before.summed a next (ap product_made item_is ∙ sym made) same_item (sym adds) e next_lowest;
+          exact = subst (λ k. IsSame next (sum_below k product)) n (same_through next (plus sum a) (plus s (product v)) e both);
         }
 
     pub term_wide : (w : Wide) → Err w ≡ mul_of (item_of slope v) (item_of mean v) → Err w ≡ value_steps slope mean
@@ -55,26 +56,13 @@ module _ (slope mean : List Fraction) where
     pub made_of : Ok sum ≡ value_steps slope mean
     made_of = let l = length-zip slope mean in sym (all_summed product_made product_of (whole (pos 0)) (zip slope mean) v sum (omega (arith, l)) all.summed).steps
 
-    pub exact_of : HaveSameCross sum (sum_below (length slope) (λ k. times (item_of slope k) (item_of mean k)))
-    exact_of = subst (λ k. HaveSameCross sum (sum_below k (λ j. times (item_of slope j) (item_of mean j)))) done all.exact
+    pub exact_of : IsSame sum (sum_below (length slope) (λ k. times (item_of slope k) (item_of mean k)))
+    exact_of = subst (λ k. IsSame sum (sum_below k (λ j. times (item_of slope j) (item_of mean j)))) done all.exact
 
--- fractions of the same values have the same product
-pub times_same : (a b x y : Fraction) → (pos 0) <ℤ a.den → (pos 0) <ℤ b.den → HaveSameCross a x → HaveSameCross b y → HaveSameCross (times a b) (times x y)
-times_same a b x y p q s t = times_left (times a b) y a x p (times_right (times a b) a b y q refl t) s
-
-pub plus_same : (a b x y : Fraction) → (pos 0) <ℤ a.den → (pos 0) <ℤ b.den → HaveSameCross a x → HaveSameCross b y → HaveSameCross (plus a b) (plus x y)
-plus_same a b x y p q s t = plus_left (plus a b) y a x p (plus_right (plus a b) a b y q refl t) s
-
--- a sum of fractions with the values of others
-pub sum_same : (n : ℕ) (f g : ℕ → Fraction) → ((v : ℕ) → v < n → ((pos 0) <ℤ (f v).den) × HaveSameCross (f v) (g v)) → ((pos 0) <ℤ (sum_below n f).den) × HaveSameCross (sum_below n f) (sum_below n g)
-sum_same zero f g h = (omega (arith, ints), refl)
-sum_same (suc n) f g h =
-    let before = sum_same n f g (λ v b. h v (omega arith)) in
-    let last = h n (omega arith) in
-    (mul_positive (sum_below n f).den (f n).den before.0 last.0, plus_same (sum_below n f) (f n) (sum_below n g) (g n) before.0 last.0 before.1 last.1)
-
-pub value_along : (slope mean : List Fraction) (n : ℕ) (f g : ℕ → Fraction) → AreReduced slope n f → AreReduced mean n g → (r : Fraction) → IsLowest r → HaveSameCross r (sum_below n (λ v. times (item_of slope v) (item_of mean v))) → IsReduced r (sum_below n (λ v. times (f v) (g v)))
+pub value_along : (slope mean : List Fraction) (n : ℕ) (f g : ℕ → Fraction) → AreReduced slope n f → AreReduced mean n g → (r : Fraction) → IsLowest r → IsSame r (sum_below n (λ v. times (item_of slope v) (item_of mean v))) → IsReduced r (sum_below n (λ v. times (f v) (g v)))
 value_along slope mean n f g left right r lowest same =
     let products = λ (v : ℕ). times (item_of slope v) (item_of mean v) in
-    let s = sum_same n products (λ v. times (f v) (g v)) (λ v b. let p = left.each v b in let q = right.each v b in (mul_positive (item_of slope v).den (item_of mean v).den p.lowest.ratio.positive q.lowest.ratio.positive, times_same (item_of slope v) (item_of mean v) (f v) (g v) p.lowest.ratio.positive q.lowest.ratio.positive p.same q.same)) in
-    record { lowest = lowest; same = same_trans r (whole (pos 0)) (sum_below n products) (sum_below n (λ v. times (f v) (g v))) s.0 same s.1 }
+    let values = λ (v : ℕ). times (f v) (g v) in
+    let one = λ (v : ℕ) (h : v < n). times_same (item_of slope v) (item_of mean v) (f v) (g v) (left.each v h).same (right.each v h).same in
+    let all = sum_below_same n products values one in
+    record { lowest = lowest; same = same_through r (sum_below n products) (sum_below n values) same all }

@@ -1,13 +1,16 @@
 -- A mean as it is summed, share by share.
-use Rattle.std.proofs.Common.{◌≡◌, ℕ, ◌+◌, ◌<◌, ◌≤◌, refl, sym, ap, subst, ◌∙◌, ℤ, pos, ◌*ℤ◌, ◌<ℤ◌, Result, Ok, Err, List, [], ◌∷◌, length, map, get_or, take}
-use Rattle.std.proofs.Math.IntN.{zero-*ℤ}
+use Rattle.std.proofs.Common.{◌≡◌, ℕ, ◌+◌, ◌<◌, ◌≤◌, arith, refl, sym, ap, subst, ◌∙◌, ℤ, pos, ◌*ℤ◌, ◌<ℤ◌, Result, Ok, Err, List, [], ◌∷◌, length, map, get_or, take}
+use Rattle.std.proofs.Math.IntN.{*ℤ_comm, zero-*ℤ}
+use Rattle.std.proofs.lemmas.Int.{ints}
 use Rattle.std.proofs.lemmas.List.{take_all, take_more}
 use Rattle.zr_base.specs.declared.step.Wide.{Wide}
 use Rattle.zr_base.specs.Steps.{◌>>=◌}
-use Rattle.zr_base.specs.Fractions.{Fraction, HaveSameCross, over, plus, ratio, sum_over, times, whole}
+use Rattle.zr_base.specs.Fractions.{Fraction, HaveSameCross, IsSame, over, plus, ratio, sum_over, times, whole}
 use Rattle.zr_base.specs.Lowest.{IsLowest, add_of}
 use Rattle.zr_base.specs.Points.{value_of}
-use Rattle.zr_base.proofs.Sames.{plus_left, plus_right, sum_over-snoc}
+use Rattle.zr_base.proofs.Divisors.{mul_positive, positive_factor}
+use Rattle.zr_base.proofs.SameLaws.{plus_same, same_through}
+use Rattle.zr_base.proofs.Sames.{sum_over-snoc}
 use Rattle.zr_game.specs.CostSteps.{sum_made}
 use Rattle.zr_game.specs.Profiles.{weighted}
 use Rattle.zr_game.proofs.CostSums.{Summed, all_summed, more_summed, none_summed, wide_sum, wide_term, zero_lowest}
@@ -45,27 +48,44 @@ weighted_value v part = times (whole part.weight) (value_of part.point v)
 -- the sum of the shares of xs
 pub record MeanOf (total : ℤ) (v : ℕ) (xs : List Part) (sum : Fraction) : Type 0 where
   pub summed : Summed (share_made total v) (share_value total v) (whole (pos 0)) xs sum
-  pub mean : HaveSameCross sum (over (sum_over xs (weighted_value v)) total)
+  pub mean : IsSame sum (over (sum_over xs (weighted_value v)) total)
 
-module _ (total : ℤ) (v : ℕ) where
+-- the mean's denominator without the total, and the value's
+mean_den : (total : ℤ) → (pos 0) <ℤ total → (f s : Fraction) → IsSame f (over s total) → (pos 0) <ℤ s.den
+mean_den total positive f s same = positive_factor s.den total same.right positive
+
+value_den : (total : ℤ) → (pos 0) <ℤ total → (f x : Fraction) (w : ℤ) → IsSame f (times (ratio w total) x) → (pos 0) <ℤ x.den
+value_den total positive f x w same =
+    positive_factor x.den total (subst (λ z. (pos 0) <ℤ z) (*ℤ_comm total x.den) same.right) positive
+
+module _ (total : ℤ) (positive : (pos 0) <ℤ total) (v : ℕ) where
   pub none_of : MeanOf total v [] (whole (pos 0))
-  none_of = record { summed = none_summed (share_made total v) (share_value total v) (whole (pos 0)) zero_lowest; mean = zero total }
+  none_of = record {
+    summed = none_summed (share_made total v) (share_value total v) (whole (pos 0)) zero_lowest;
+    mean = record { left = omega (arith, ints); right = mul_positive (pos 1) total (omega (arith, ints)) positive; cross = zero total };
+  }
     where
       zero : (t : ℤ) → HaveSameCross (whole (pos 0)) (over (whole (pos 0)) t)
       zero t = zero-*ℤ (pos 1 *ℤ t)
 
-  module _ (positive : (pos 0) <ℤ total) (xs : List Part) (i : ℕ) (x : Part) (here : i < length xs) (is : x ≡ get_or xs i x) (sum : Fraction) (before : MeanOf total v (take i xs) sum) where
-    pub more_of : (a next : Fraction) → Ok a ≡ share_made total v x → HaveSameCross a (share_value total v x) → IsLowest a → Ok next ≡ add_of sum a → HaveSameCross next (plus sum a) → IsLowest next → MeanOf total v (take (i + 1) xs) next
-    more_of a next made same lowest adds e next_lowest =
+  module _ (xs : List Part) (i : ℕ) (x : Part) (here : i < length xs) (is : x ≡ get_or xs i x) (sum : Fraction) (before : MeanOf total v (take i xs) sum) where
+    pub more_of : (a next : Fraction) → Ok a ≡ share_made total v x → IsSame a (share_value total v x) → Ok next ≡ add_of sum a → IsSame next (plus sum a) → IsLowest next → MeanOf total v (take (i + 1) xs) next
+    more_of a next made same adds e next_lowest =
         let y = get_or xs i x in
         let s = sum_over (take i xs) (weighted_value v) in
-        let same_y = subst (λ (z : Part). HaveSameCross a (share_value total v z)) is same in
-        let right = plus_right next sum a (share_value total v y) lowest.ratio.positive e same_y in
-        let left = plus_left next (share_value total v y) sum (over s total) before.summed.lowest.ratio.positive right before.mean in
-        let more = one_share next s (value_of y.point v) y.weight total positive left in
+        let value = share_value total v y in
+        let same_y = subst (λ (z : Part). IsSame a (share_value total v z)) is same in
+        let both = plus_same sum a (over s total) value before.mean same_y in
+        let all = same_through next (plus sum a) (plus (over s total) value) e both in
+        let above = mean_den total positive sum s before.mean in
+        let below = value_den total positive a (value_of y.point v) y.weight same_y in
+        let more = one_share next s (value_of y.point v) y.weight total positive above below all in
+        let snoc = sym (sum_over-snoc (take i xs) y (weighted_value v)) in
+        let onward = subst (λ (z : Fraction). IsSame next (over z total)) snoc more in
+        let made_here = sym (made ∙ ap (share_made total v) is) in
         record {
-          summed = more_summed (share_made total v) (share_value total v) (whole (pos 0)) xs i x here sum before.summed a next (sym (made ∙ ap (share_made total v) is)) same_y lowest (sym adds) e next_lowest;
-          mean = subst (λ (ys : List Part). HaveSameCross next (over (sum_over ys (weighted_value v)) total)) (sym (take_more xs i x here)) (subst (λ (z : Fraction). HaveSameCross next (over z total)) (sym (sum_over-snoc (take i xs) y (weighted_value v))) more);
+          summed = more_summed (share_made total v) (share_value total v) (whole (pos 0)) xs i x here sum before.summed a next made_here same_y (sym adds) e next_lowest;
+          mean = subst (λ (ys : List Part). IsSame next (over (sum_over ys (weighted_value v)) total)) (sym (take_more xs i x here)) onward;
         }
 
     pub term_wide : (w : Wide) → Err w ≡ share_made total v x → Err w ≡ mean_steps total (map part_of xs) v
@@ -78,5 +98,5 @@ module _ (total : ℤ) (v : ℕ) where
     pub made_of : Ok sum ≡ mean_steps total (map part_of xs) v
     made_of = sym (sum_made-map part_of (share total v) (whole (pos 0)) xs ∙ (all_summed (share_made total v) (share_value total v) (whole (pos 0)) xs i sum done all.summed).steps)
 
-    pub exact_of : HaveSameCross sum (over (weighted (map part_of xs) (λ x. value_of x v)) total)
-    exact_of = subst (λ (z : Fraction). HaveSameCross sum (over z total)) (sym (sum_over-map part_of (λ part. times (whole part.weight) (value_of part.point v)) xs)) (subst (λ (ys : List Part). HaveSameCross sum (over (sum_over ys (weighted_value v)) total)) (take_all i xs done) all.mean)
+    pub exact_of : IsSame sum (over (weighted (map part_of xs) (λ x. value_of x v)) total)
+    exact_of = subst (λ (z : Fraction). IsSame sum (over z total)) (sym (sum_over-map part_of (λ part. times (whole part.weight) (value_of part.point v)) xs)) (subst (λ (ys : List Part). IsSame sum (over (sum_over ys (weighted_value v)) total)) (take_all i xs done) all.mean)

@@ -1,19 +1,15 @@
 -- A profile's claims as rows, which have to hold at each feasible point.
-use Rattle.std.specs.Prelude.{ℕ, ℤ, pos, List, length, slice_index_or}
+use Rattle.std.specs.Prelude.{ℕ, ℤ, List, length}
 use Rattle.zr_base.specs.Fractions.{Fraction}
 use Rattle.zr_base.specs.Points.{PointOf}
 use Rattle.zr_game.specs.Players.{GameOf, PlayerOf}
 use Rattle.zr_game.specs.Forms.{IsPlayer}
 use Rattle.zr_game.specs.Feasible.{IsFeasible}
-use Rattle.zr_game.specs.Leaves.{Bound, BoundHolds}
+use Rattle.zr_game.specs.Leaves.{BoundHolds, bound_with}
 use Rattle.zr_game.specs.Means.{along_slope, mean, slope}
 use Rattle.zr_game.specs.Profiles.{Profile, strategy_of}
 use Rattle.zr_mix.specs.Claims.{IsClaim}
 use Rattle.zr_mix.specs.Values.{AreInLowestTerms, IsInLowestTerms}
-
--- the row `left * x <= right`
-abbrev pub claim_row : List ℤ → ℤ → Bound
-claim_row left right = record { coef = λ v. slice_index_or left v (pos 0); le = right }
 
 -- the claim of player i in a profile: that of its slope and of its own cost along it, both in lowest terms
 pub record IsClaimOf (player : PlayerOf) (i : ℕ) (profile : Profile) (left : List ℤ) (right : ℤ) : Type 0 where
@@ -26,7 +22,7 @@ pub record IsClaimOf (player : PlayerOf) (i : ℕ) (profile : Profile) (left : L
 
 -- the claim holds at each feasible point
 abbrev pub ClaimHolds : PlayerOf → List ℤ → ℤ → Type 0
-ClaimHolds player left right = (x : PointOf) → IsFeasible player x → BoundHolds player x (claim_row left right)
+ClaimHolds player left right = (x : PointOf) → IsFeasible player x → BoundHolds player x (bound_with left right)
 
 -- each player has a claim that holds
 abbrev pub HasClaims : GameOf → Profile → Type 0

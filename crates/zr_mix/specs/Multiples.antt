@@ -1,7 +1,7 @@
 -- Least common multiples: each other common multiple is a multiple of them.
 use Rattle.std.specs.Prelude.{ℤ, pos, neg_ℤ, ◌<ℤ◌, List}
 use Rattle.std.specs.List.{All}
-use Rattle.zr_base.specs.Fractions.{Fraction, HaveSameCross, times, whole}
+use Rattle.zr_base.specs.Fractions.{Fraction, IsSame, times, whole}
 use Rattle.zr_game.specs.Feasible.{IsMultiple}
 use Rattle.zr_mix.specs.Claims.{IsMultipleOf}
 
@@ -20,4 +20,4 @@ pub record IsLcmOf (fs : List Fraction) (m : ℤ) : Type 0 where
 
 -- the number is m times the fraction, negated
 abbrev pub IsNegatedOver : ℤ → Fraction → ℤ → Type 0
-IsNegatedOver m f number = HaveSameCross (times (whole m) f) (whole (neg_ℤ number))
+IsNegatedOver m f number = IsSame (times (whole m) f) (whole (neg_ℤ number))

@@ -1,5 +1,5 @@
 -- The steps by which means, slopes, values and claims are made, each of which may be too wide.
-use Rattle.std.specs.Prelude.{◌≡◌, ℕ, zero, suc, ◌+◌, ◌==◌, ℤ, pos, neg_ℤ, int_div, unsigned_abs, List, [], ◌∷◌, ◌++◌, length, slice_index_or, take, Result, Ok, Err, ⊤}
+use Rattle.std.specs.Prelude.{◌≡◌, ℕ, ◌+◌, ◌==◌, ℤ, pos, neg_ℤ, int_div, unsigned_abs, Option, Some, None, List, [], ◌∷◌, ◌++◌, length, slice_index_or, take, Result, Ok, Err}
 use Rattle.std.specs.List.{filter, zip}
 use Rattle.zr_base.specs.declared.step.Wide.{Wide}
 use Rattle.zr_base.specs.Steps.{cross_of, ◌>>=◌}
@@ -11,16 +11,7 @@ use Rattle.zr_game.specs.Players.{GameOf, PlayerOf}
 use Rattle.zr_game.specs.CostSteps.{sum_made}
 use Rattle.zr_game.specs.Profiles.{Part, Strategy}
 use Rattle.zr_game.specs.declared.player.CrossTerm.{CrossTerm}
-
--- what make gives at k, k + 1, .., so many of them, in this order
-abbrev pub made_from : {A : Type 0} → (ℕ → Result A Wide) → ℕ → ℕ → Result (List A) Wide
-made_from make k zero = Ok []
-made_from make k (suc n) = make k >>= λ a. made_from make (k + 1) n >>= λ rest. Ok (a ∷ rest)
-
--- the list was written, or the step was too wide
-abbrev pub Writes : {A : Type 0} → Result (List A) Wide → Result ⊤ Wide → List A → Type 0
-Writes (Ok list) result out = (result ≡ Ok tt) × (out ≡ list)
-Writes (Err w) result out = result ≡ Err w
+use Rattle.zr_game.specs.declared.player.Other.{Other}
 
 -- a part's share of the mean of variable v: `weight / total` times the value
 abbrev pub share : ℤ → ℕ → Part → Result Fraction Wide
@@ -38,14 +29,33 @@ var_total (player ∷ players) = length player.vars + var_total players
 abbrev pub place_of : GameOf → ℕ → ℕ → ℕ
 place_of game k v = var_total (take k game) + v
 
+-- the mean of a player's variable, in the list of all players' means
+abbrev pub mean_in : GameOf → List Fraction → ℕ × ℕ → Fraction
+mean_in game means at = slice_index_or means (place_of game at.0 at.1) (whole (pos 0))
+
 -- a cross term's number times the other variable's mean
 abbrev pub slope_term : GameOf → List Fraction → CrossTerm → Result Fraction Wide
-slope_term game means t = mul_of (whole t.coef) (slice_index_or means (place_of game t.player t.var) (whole (pos 0)))
+slope_term game means t = mul_of (whole t.coef) (mean_in game means (t.player, t.var))
 
 -- the own number of v, and then its cross terms in their order
 abbrev pub slope_steps : GameOf → PlayerOf → List Fraction → ℕ → Result Fraction Wide
 slope_steps game player means v =
     sum_made (slope_term game means) (whole (coef_at player.cost v)) (filter (λ t. t.own == v) player.cross)
+
+-- a times the mean of the variable at the place, if there is one
+abbrev pub times_mean : GameOf → List Fraction → Fraction → Option (ℕ × ℕ) → Result Fraction Wide
+times_mean game means a None = Ok a
+times_mean game means a (Some at) = mul_of a (mean_in game means at)
+
+-- a number times the first mean, and that times the second, if there is one
+abbrev pub rest_term : GameOf → List Fraction → Other → Result Fraction Wide
+rest_term game means t = do
+  first ← mul_of (whole t.coef) (mean_in game means t.first)
+  times_mean game means first t.second
+
+-- the sum of the terms in the others' variables alone, from 0 on
+abbrev pub rest_steps : GameOf → PlayerOf → List Fraction → Result Fraction Wide
+rest_steps game player means = sum_made (rest_term game means) (whole (pos 0)) player.others
 
 -- the sum of slope times mean
 abbrev pub value_steps : List Fraction → List Fraction → Result Fraction Wide

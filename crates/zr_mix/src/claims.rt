@@ -1,13 +1,12 @@
-ghost use Rattle.std.specs.Prelude.{◌≡◌, ◌<◌, ◌∷◌, [], ℕ, ℤ, pos, ◌<ℤ◌, length, slice_index_or, unsigned_abs, IfOk, OnOk};
-ghost use Rattle.std.specs.Int.{IsGcd};
+ghost use Rattle.std.specs.Prelude.{◌≡◌, ◌<◌, ◌∷◌, [], ℕ, ℤ, pos, ◌<ℤ◌, length, slice_index_or, IfOk, OnOk};
 ghost use Rattle.std.specs.List.{All};
-ghost use Rattle.zr_base.specs.Lowest.{gcd_of};
-ghost use Rattle.zr_mix.specs.Steps.{GivesClaim, Writes, all_negated, claim_steps, multiple_steps, negated_over};
+ghost use Rattle.zr_base.specs.Made.{Writes};
+ghost use Rattle.zr_mix.specs.Steps.{GivesClaim, all_negated, claim_steps, multiple_steps, negated_over};
 ghost use Rattle.zr_mix.specs.Claims.{IsClaim, IsMultipleOf};
 ghost use Rattle.zr_mix.specs.Multiples.{IsLcm, IsLcmOf, IsNegatedOver};
 ghost use Rattle.zr_mix.specs.Values.{item_of};
 
-use zr_base::{Frac, Wide, cross, divided, gcd};
+use zr_base::{Frac, Wide, common, cross, divided};
 
 /// The claim `-m * slope * x <= -m * value`: its left side in `out`, which has a place for each
 /// number of the slope, and its right side as the answer. Here m is the least common multiple of
@@ -49,17 +48,6 @@ fn multiple_with(m: i128, f: Frac) -> Result<i128, Wide>
     let den = f.den();
     let shared = common(m, den);
     cross((m, divided(den, shared)), (0, 0))
-}
-
-/// The greatest common divisor of two numbers above 0.
-fn common(a: i128, b: i128) -> i128
-    requires first { pos 0 <ℤ a }
-    requires second { pos 0 <ℤ b }
-    ensures positive { pos 0 <ℤ result }
-    ensures gcd { IsGcd (unsigned_abs a) (unsigned_abs b) (unsigned_abs result) }
-    ensures value { result ≡ pos (gcd_of (unsigned_abs a) (unsigned_abs b)) }
-{
-    gcd(a.unsigned_abs(), b.unsigned_abs()) as i128
 }
 
 /// Puts the numbers of the slope over `m`, negated, into `out`.

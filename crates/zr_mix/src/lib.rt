@@ -5,6 +5,8 @@ mod claims;
 mod laws;
 mod mean;
 mod mixture;
+mod others;
+mod place;
 mod slopes;
 mod values;
 
@@ -12,6 +14,7 @@ pub use claims::claim;
 pub use laws::{law_of_claims, law_of_costs_by_means};
 pub use mean::means;
 pub use mixture::{Part, Profile, Strategy};
+pub use others::rest;
 pub use slopes::slope;
 pub use values::value;
 

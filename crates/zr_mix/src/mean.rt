@@ -1,16 +1,17 @@
 ghost use Rattle.std.specs.Prelude.{◌≡◌, ◌<◌, ◌≤ℤ◌, pos, length, map, IfOk, OnOk};
 ghost use Rattle.std.specs.List.{All};
-ghost use Rattle.zr_base.specs.Fractions.{HaveSameCross, over, ratio, times};
+ghost use Rattle.zr_base.specs.Fractions.{IsSame, over, ratio, times};
 ghost use Rattle.zr_base.specs.Lowest.{IsLowest, reduce};
-ghost use Rattle.zr_base.specs.Points.{num_of, value_of};
+ghost use Rattle.zr_base.specs.Made.{Writes, made_from};
+ghost use Rattle.zr_base.specs.Points.{value_of};
 ghost use Rattle.zr_game.specs.Profiles.{total as weights_of, weighted};
 ghost use Rattle.zr_game.specs.Means.{mean as mean_of_strategy};
 ghost use Rattle.zr_mix.specs.Mixtures.{part_of, parts_of};
-ghost use Rattle.zr_mix.specs.Steps.{Writes, made_from, mean_steps, share};
+ghost use Rattle.zr_mix.specs.Steps.{mean_steps, share};
 ghost use Rattle.zr_mix.specs.Values.{AreReduced};
 
 use crate::mixture::{Part, Strategy};
-use zr_base::{Frac, Point, Wide};
+use zr_base::{Frac, Wide};
 
 /// The strategy's mean of each variable, of which each point has as many values as `out` has
 /// places.
@@ -38,10 +39,10 @@ fn mean_at(parts: &[Part], total: i128, v: usize) -> Result<Frac, Wide>
     requires weights { All (λ part. pos 1 ≤ℤ part.weight) parts.now }
     requires places { All (λ part. v < length part.point.num) parts.now }
     ensures steps { result ≡ mean_steps total (map part_of parts.now) v }
-    ensures exact { IfOk result (λ f. HaveSameCross f (over (weighted (map part_of parts.now) (λ x. value_of x v)) total)) }
+    ensures exact { IfOk result (λ f. IsSame f (over (weighted (map part_of parts.now) (λ x. value_of x v)) total)) }
     ensures lowest { IfOk result IsLowest }
 {
-    let mut sum = Frac::new(0, 1).unwrap();
+    let mut sum = Frac::from(0);
     for part in parts {
         let term = share_of(part, total, v)?;
         sum = sum.add(term)?;
@@ -55,10 +56,10 @@ fn share_of(part: &Part, total: i128, v: usize) -> Result<Frac, Wide>
     requires weight { pos 1 ≤ℤ part.now.weight }
     requires place { v < length part.now.point.num }
     ensures steps { result ≡ share total v (part_of part.now) }
-    ensures exact { IfOk result (λ f. HaveSameCross f (times (ratio part.now.weight total) (value_of part.now.point v))) }
+    ensures exact { IfOk result (λ f. IsSame f (times (ratio part.now.weight total) (value_of part.now.point v))) }
     ensures lowest { IfOk result IsLowest }
 {
-    probability(part.weight, total).mul(value_at(&part.point, v))
+    probability(part.weight, total).mul(part.point.value(v))
 }
 
 /// `weight / total`.
@@ -66,18 +67,8 @@ fn probability(weight: i128, total: i128) -> Frac
     requires weight { pos 1 ≤ℤ weight }
     requires total { pos 1 ≤ℤ total }
     ensures value { result ≡ reduce weight total }
-    ensures same { HaveSameCross result (ratio weight total) }
+    ensures same { IsSame result (ratio weight total) }
     ensures lowest { IsLowest result }
 {
     Frac::new(weight, total).unwrap()
-}
-
-/// The value of variable `v`.
-fn value_at(point: &Point, v: usize) -> Frac
-    requires { v < length point.now.num }
-    ensures value { result ≡ reduce (num_of point.now v) point.now.den }
-    ensures same { HaveSameCross result (value_of point.now v) }
-    ensures lowest { IsLowest result }
-{
-    Frac::new(point.num(v), point.den()).unwrap()
 }

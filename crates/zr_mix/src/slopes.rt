@@ -1,7 +1,8 @@
-ghost use Rattle.std.specs.Prelude.{◌≡◌, ◌<◌, ◌≤◌, ◌^◌, ◌==◌, ◌∷◌, [], ℕ, pos, length, IfOk, OnOk};
+ghost use Rattle.std.specs.Prelude.{◌≡◌, ◌<◌, ◌==◌, ◌∷◌, [], ℕ, pos, length, IfOk, OnOk};
 ghost use Rattle.std.specs.List.{All, filter};
-ghost use Rattle.zr_base.specs.Fractions.{HaveSameCross, plus, sum_over, whole};
+ghost use Rattle.zr_base.specs.Fractions.{IsSame, plus, sum_over};
 ghost use Rattle.zr_base.specs.Lowest.{IsLowest};
+ghost use Rattle.zr_base.specs.Made.{Writes, made_from};
 ghost use Rattle.zr_base.specs.Terms.{coef_at};
 ghost use Rattle.zr_game.specs.Players.{PlayerOf, player_of};
 ghost use Rattle.zr_game.specs.Games.{game_of};
@@ -9,9 +10,10 @@ ghost use Rattle.zr_game.specs.Forms.{IsPlayer};
 ghost use Rattle.zr_game.specs.CostSteps.{sum_made};
 ghost use Rattle.zr_game.specs.Profiles.{Profile as ProfileOf};
 ghost use Rattle.zr_game.specs.Means.{slope as slope_of};
-ghost use Rattle.zr_mix.specs.Steps.{Writes, made_from, place_of, slope_steps, slope_term, var_total};
+ghost use Rattle.zr_mix.specs.Steps.{slope_steps, slope_term, var_total};
 ghost use Rattle.zr_mix.specs.Values.{AreMeans, AreReduced, HasMean, IsReduced, slope_at, term_at};
 
+use crate::place::mean_of;
 use zr_base::{Frac, Wide};
 use zr_game::{CrossTerm, Game, Player};
 
@@ -36,7 +38,7 @@ pub fn slope(game: &Game, i: u32, means: &[Frac], out: &mut [Frac]) -> Result<()
 }
 
 fn write_slope(game: &Game, player: &Player, means: &[Frac], out: &mut [Frac]) -> Result<(), Wide>
-    requires { All (HasMean (game_of game.now) means.now) player.now.cross.items }
+    requires { All (λ t. HasMean (game_of game.now) means.now (t.player, t.var)) player.now.cross.items }
     ensures steps { Writes (made_from (slope_steps (game_of game.now) (player_of player.now) means.now) 0 (length out.old)) result out.new }
     ensures at { OnOk result (AreReduced out.new (length out.old) (slope_at (game_of game.now) (player_of player.now) means.now)) }
 {
@@ -47,11 +49,11 @@ fn write_slope(game: &Game, player: &Player, means: &[Frac], out: &mut [Frac]) -
 }
 
 fn slope_of_var(game: &Game, player: &Player, means: &[Frac], v: usize) -> Result<Frac, Wide>
-    requires { All (HasMean (game_of game.now) means.now) player.now.cross.items }
+    requires { All (λ t. HasMean (game_of game.now) means.now (t.player, t.var)) player.now.cross.items }
     ensures steps { result ≡ slope_steps (game_of game.now) (player_of player.now) means.now v }
     ensures at { IfOk result (λ f. IsReduced f (slope_at (game_of game.now) (player_of player.now) means.now v)) }
 {
-    let own = number(number_at(player.cost.as_slice(), v));
+    let own = Frac::from(number_at(player.cost.as_slice(), v));
     with_terms(own, &player.cross, v, game, means)
 }
 
@@ -63,10 +65,10 @@ fn with_terms(
     game: &Game,
     means: &[Frac],
 ) -> Result<Frac, Wide>
-    requires means { All (HasMean (game_of game.now) means.now) cross.now }
+    requires means { All (λ t. HasMean (game_of game.now) means.now (t.player, t.var)) cross.now }
     requires lowest { IsLowest start }
     ensures steps { result ≡ sum_made (slope_term (game_of game.now) means.now) start (filter (λ t. t.own == v) cross.now) }
-    ensures exact { IfOk result (λ f. HaveSameCross f (plus start (sum_over (filter (λ t. t.own == v) cross.now) (term_at (game_of game.now) means.now)))) }
+    ensures exact { IfOk result (λ f. IsSame f (plus start (sum_over (filter (λ t. t.own == v) cross.now) (term_at (game_of game.now) means.now)))) }
     ensures lowest { IfOk result IsLowest }
 {
     let mut sum = start;
@@ -78,31 +80,17 @@ fn with_terms(
 
 /// The sum with a cross term more, where it is one of variable `v`.
 fn with_term(sum: Frac, t: &CrossTerm, v: usize, game: &Game, means: &[Frac]) -> Result<Frac, Wide>
-    requires mean { HasMean (game_of game.now) means.now t.now }
+    requires mean { HasMean (game_of game.now) means.now (t.now.player, t.now.var) }
     requires lowest { IsLowest sum }
     ensures steps { result ≡ sum_made (slope_term (game_of game.now) means.now) sum (filter (λ t. t.own == v) (t.now ∷ [])) }
-    ensures exact { IfOk result (λ f. HaveSameCross f (plus sum (sum_over (filter (λ t. t.own == v) (t.now ∷ [])) (term_at (game_of game.now) means.now)))) }
+    ensures exact { IfOk result (λ f. IsSame f (plus sum (sum_over (filter (λ t. t.own == v) (t.now ∷ [])) (term_at (game_of game.now) means.now)))) }
     ensures lowest { IfOk result IsLowest }
 {
     if t.own as usize != v {
         return Ok(sum);
     }
-    let mean = means[place(game, t.player as usize, t.var as usize)];
-    let term = number(t.coef).mul(mean)?;
+    let term = Frac::from(t.coef).mul(mean_of(game, means, (t.player, t.var)))?;
     sum.add(term)
-}
-
-/// The place of variable `v` of player `k` among the variables of all players.
-fn place(game: &Game, k: usize, v: usize) -> usize
-    requires player { k ≤ length (game_of game.now) }
-    requires fits { place_of (game_of game.now) k v < 2 ^ 64 }
-    ensures { result ≡ place_of (game_of game.now) k v }
-{
-    let mut before = 0;
-    for player in &game.players[..k] {
-        before += player.vars.len();
-    }
-    before + v
 }
 
 /// The number at column `v`, which is 0 where none is listed.
@@ -115,11 +103,4 @@ fn number_at(terms: &[(u32, i64)], v: usize) -> i64
         }
     }
     0
-}
-
-fn number(c: i64) -> Frac
-    ensures value { result ≡ whole c }
-    ensures lowest { IsLowest result }
-{
-    Frac::new(i128::from(c), 1).unwrap()
 }

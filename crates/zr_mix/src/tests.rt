@@ -11,7 +11,7 @@ use smallvec::SmallVec;
 use std::alloc::Global;
 use std::test::Fail;
 use zr_base::{Frac, Point, Row, Wide};
-use zr_game::{CrossTerm, Game, Player, Var};
+use zr_game::{CrossTerm, Game, Other, Player, Var};
 
 /// A player with two variables that are 0 or 1: it packs at most 5.
 fn packer(
@@ -20,6 +20,7 @@ fn packer(
     packs: [i64; 2],
     own: [i64; 2],
     shared: [i64; 2],
+    others: Vec<Other>,
 ) -> Result<Player, Fail>
     ensures { IfOk result (λ player. length (player_of player).vars ≡ 2) }
 {
@@ -37,6 +38,7 @@ fn packer(
             shared_term(0, other, shared[0]),
             shared_term(1, other, shared[1]),
         ]?,
+        others,
     })
 }
 
@@ -44,6 +46,7 @@ fn bit(alloc: Global) -> Var {
     Var {
         name: String::new(alloc),
         whole: true,
+        low: Some(0),
         up: Some(1),
     }
 }
@@ -62,9 +65,35 @@ fn knapsack(alloc: Global) -> Result<Game, Fail>
     ensures vars { IfOk result (λ game. (k : ℕ) (player : PlayerOf) → IsPlayer (game_of game) k player → length player.vars ≡ 2) }
     ensures total { IfOk result (λ game. var_total (game_of game) ≡ 4) }
 {
-    let first = packer(alloc, 1, [3, 4], [-1, -2], [2, 3])?;
-    let second = packer(alloc, 0, [2, 5], [-3, -5], [5, 4])?;
+    let first = packer(alloc, 1, [3, 4], [-1, -2], [2, 3], Vec::new(alloc))?;
+    let second = packer(alloc, 0, [2, 5], [-3, -5], [5, 4], Vec::new(alloc))?;
     match Game::new(vec![in alloc; first, second]?) {
+        Ok(game) => Ok(game),
+        Err(_) => Err(Fail::from("no game")),
+    }
+}
+
+/// The first player has terms in the others' variables, one in one and one in two.
+fn three(alloc: Global) -> Result<Game, Fail>
+    ensures players { IfOk result (λ game. length (game_of game) ≡ 3) }
+    ensures total { IfOk result (λ game. var_total (game_of game) ≡ 6) }
+{
+    let others = vec![in alloc;
+        Other {
+            first: (1, 0),
+            second: None,
+            coef: 3
+        },
+        Other {
+            first: (1, 0),
+            second: Some((2, 1)),
+            coef: 2
+        },
+    ]?;
+    let first = packer(alloc, 1, [3, 4], [-1, -2], [2, 3], others)?;
+    let second = packer(alloc, 0, [2, 5], [-3, -5], [5, 4], Vec::new(alloc))?;
+    let third = packer(alloc, 0, [2, 5], [-3, -5], [5, 4], Vec::new(alloc))?;
+    match Game::new(vec![in alloc; first, second, third]?) {
         Ok(game) => Ok(game),
         Err(_) => Err(Fail::from("no game")),
     }
@@ -122,6 +151,16 @@ fn claims_of_the_knapsack_game(rt: HostRuntime) -> Result<(), Fail> {
 
     slope(&game, 1, &all, &mut out).map_err(|_| "wide")?;
     assert_eq!(rt; out, [fraction(-17, 9)?, fraction(-17, 9)?]);
+    Ok(())
+}
+
+#[test]
+fn rest_by_hand(rt: HostRuntime) -> Result<(), Fail> {
+    let game = three(rt.alloc())?;
+    let half = fraction(1, 2)?;
+    let all = [half, half, fraction(2, 5)?, fraction(3, 5)?, half, half];
+    let made = rest(&game, 0, &all).map_err(|_| "wide")?;
+    assert_eq!(rt; made, fraction(8, 5)?);
     Ok(())
 }
 

@@ -1,5 +1,5 @@
 ghost use Rattle.std.specs.Prelude.{◌≡◌, ℕ, length, IfOk};
-ghost use Rattle.zr_base.specs.Fractions.{Fraction, HaveSameCross, sum_below, times};
+ghost use Rattle.zr_base.specs.Fractions.{Fraction, IsSame, sum_below, times};
 ghost use Rattle.zr_base.specs.Lowest.{IsLowest};
 ghost use Rattle.zr_mix.specs.Steps.{value_steps};
 ghost use Rattle.zr_mix.specs.Values.{AreReduced, IsReduced, item_of};
@@ -13,12 +13,12 @@ use zr_base::{Frac, Wide};
 pub fn value(slope: &[Frac], mean: &[Frac]) -> Result<Frac, Wide>
     requires { length slope.now ≡ length mean.now }
     ensures steps { result ≡ value_steps slope.now mean.now }
-    ensures exact { IfOk result (λ f. HaveSameCross f (sum_below (length slope.now) (λ v. times (item_of slope.now v) (item_of mean.now v)))) }
+    ensures exact { IfOk result (λ f. IsSame f (sum_below (length slope.now) (λ v. times (item_of slope.now v) (item_of mean.now v)))) }
     ensures lowest { IfOk result IsLowest }
     ensures along { (f g : ℕ → Fraction) → AreReduced slope.now (length slope.now) f → AreReduced mean.now (length slope.now) g
         → IfOk result (λ r. IsReduced r (sum_below (length slope.now) (λ v. times (f v) (g v)))) }
 {
-    let mut sum = Frac::new(0, 1).unwrap();
+    let mut sum = Frac::from(0);
     for v in 0..slope.len() {
         let term = slope[v].mul(mean[v])?;
         sum = sum.add(term)?;

@@ -3,7 +3,7 @@ use Rattle.std.specs.Int.{w128}
 use Rattle.std.proofs.lemmas.Int.{to_z-of_z}
 use Rattle.std.proofs.lemmas.Result.{err_from_is_err_and}
 use Rattle.zr_mix.proofs.Claiming.{claimed, gives_wide, left_wide, made, slope_wide, value_wide}
-use Rattle.zr_mix.proofs.Lists.{were_ok, were_wide}
+use Rattle.zr_base.proofs.Made.{were_ok, were_wide}
 use Rattle.zr_mix.proofs.Multiples.{least_multiple}
 use Rattle.zr_mix.proofs.claims.claim.Goals as goal
 

@@ -30,4 +30,6 @@ pub returns-clause-steps : goal.returns-clause-steps
 returns-clause-steps c = stepped ((goal.at.returns-clause-steps c).After-cross)
 
 pub returns-clause-exact : goal.returns-clause-exact
-returns-clause-exact c = negated_exact c.args.m c.args.f c.requires.multiple c.cross.result (stepped ((goal.at.returns-clause-exact c).After-cross))
+returns-clause-exact c =
+    let positive = rw c.den.ensures.value at c.den.ensures.positive in
+    negated_exact c.args.m c.args.f positive c.requires.multiple c.cross.result (stepped ((goal.at.returns-clause-exact c).After-cross))

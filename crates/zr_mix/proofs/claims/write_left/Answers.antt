@@ -4,11 +4,12 @@ use Rattle.std.proofs.lemmas.Int.{to_z-of_z}
 use Rattle.std.proofs.lemmas.Result.{err_from_is_err_and}
 use Rattle.zr_base.proofs.SumSteps.{get_or_default}
 use Rattle.zr_base.specs.Fractions.{Fraction, whole}
+use Rattle.zr_base.specs.Made.{made_from}
 use Rattle.zr_mix.specs.Claims.{IsMultipleOf}
 use Rattle.zr_mix.specs.Multiples.{IsNegatedOver}
-use Rattle.zr_mix.specs.Steps.{all_negated, made_from, negated_over}
+use Rattle.zr_mix.specs.Steps.{all_negated, negated_over}
 use Rattle.zr_mix.specs.Values.{item_of}
-use Rattle.zr_mix.proofs.Lists.{Made, all_made, more_made, wide_made, writes_err, writes_ok}
+use Rattle.zr_base.proofs.Made.{Made, all_made, more_made, wide_made, writes_err, writes_ok}
 use Rattle.zr_mix.proofs.Negated.{negated_made}
 use Rattle.zr_mix.proofs.claims.write_left.Goals as goal
 

@@ -2,7 +2,7 @@ use Rattle.std.proofs.Common.{pos}
 use Rattle.zr_mix.specs.Multiples.{IsNegatedOver}
 use Rattle.zr_mix.specs.Steps.{negated_over}
 use Rattle.zr_mix.specs.Values.{item_of}
-use Rattle.zr_mix.proofs.Lists.{Made}
+use Rattle.zr_base.proofs.Made.{Made}
 use Rattle.zr_mix.proofs.claims.write_left.Given as goal
 
 abbrev pub invariant-loop-v : goal.invariant-loop-v

@@ -2,7 +2,7 @@ use Rattle.std.proofs.Common.{rules, FitsSigned, ◌≡◌, ℕ, ◌<◌, ℤ, �
 use Rattle.std.specs.Int.{w128}
 use Rattle.std.proofs.lemmas.Int.{to_z-of_z}
 use Rattle.std.proofs.lemmas.Result.{err_from_is_err_and}
-use Rattle.zr_base.specs.Fractions.{Fraction, HaveSameCross, over, whole}
+use Rattle.zr_base.specs.Fractions.{Fraction, IsSame, over, whole}
 use Rattle.zr_base.specs.Lowest.{IsLowest}
 use Rattle.zr_base.specs.Points.{value_of}
 use Rattle.zr_game.specs.Means.{mean}
@@ -11,7 +11,7 @@ use Rattle.zr_game.proofs.Items.{All-of_map}
 use Rattle.zr_mix.specs.Mixtures.{part_of, parts_of}
 use Rattle.zr_mix.specs.Steps.{mean_steps}
 use Rattle.zr_mix.specs.Values.{IsReduced}
-use Rattle.zr_mix.proofs.Lists.{more_made, wide_made, writes_err}
+use Rattle.zr_base.proofs.Made.{more_made, wide_made, writes_err}
 use Rattle.zr_mix.proofs.mean.means.Goals as goal
 
 pub mean_at-requires-clause-weights : goal.mean_at-requires-clause-weights
@@ -31,8 +31,8 @@ returns-in_err-out-clause-steps c =
     let strategy = c.args.strategy.now in
     rw (p.1, p.2) (writes_err _ _ c.loop-v.out (wide_made (whole (pos 0)) (mean_steps strategy.total (parts_of strategy)) (λ v f. strategy.total ≡ total (parts_of strategy) → IsReduced f (mean (parts_of strategy) v)) c.loop-v.out c.loop-v.v (length c.args.out.now) _ c.loop-v-test.true c.loop-v.invariant (sym e)))
 
-kept : (parts : List PartOf) (t : ℤ) (v : ℕ) (f : Fraction) → IsLowest f → HaveSameCross f (over (weighted parts (λ x. value_of x v)) t) → t ≡ total parts → IsReduced f (mean parts v)
-kept parts t v f lowest same e = record { lowest = lowest; same = subst (λ n. HaveSameCross f (over (weighted parts (λ x. value_of x v)) n)) e same }
+kept : (parts : List PartOf) (t : ℤ) (v : ℕ) (f : Fraction) → IsLowest f → IsSame f (over (weighted parts (λ x. value_of x v)) t) → t ≡ total parts → IsReduced f (mean parts v)
+kept parts t v f lowest same e = record { lowest = lowest; same = subst (λ n. IsSame f (over (weighted parts (λ x. value_of x v)) n)) e same }
 
 pub loop-v-preserved : goal.loop-v-preserved
 loop-v-preserved c =

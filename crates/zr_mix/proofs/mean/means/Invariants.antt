@@ -5,7 +5,7 @@ use Rattle.zr_game.specs.Profiles.{total}
 use Rattle.zr_mix.specs.Mixtures.{parts_of}
 use Rattle.zr_mix.specs.Steps.{mean_steps}
 use Rattle.zr_mix.specs.Values.{IsReduced}
-use Rattle.zr_mix.proofs.Lists.{Made}
+use Rattle.zr_base.proofs.Made.{Made}
 use Rattle.zr_mix.proofs.mean.means.Given as goal
 
 abbrev pub invariant-loop-v : goal.invariant-loop-v

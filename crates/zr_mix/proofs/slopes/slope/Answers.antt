@@ -3,7 +3,8 @@ use Rattle.zr_game.specs.Forms.{IsPlayer}
 use Rattle.zr_game.specs.Games.{game_of}
 use Rattle.zr_game.specs.Players.{PlayerOf, player_of}
 use Rattle.zr_game.proofs.Items.{found, one, read_below}
-use Rattle.zr_mix.specs.Steps.{Writes, made_from, slope_steps}
+use Rattle.zr_base.specs.Made.{Writes, made_from}
+use Rattle.zr_mix.specs.Steps.{slope_steps}
 use Rattle.zr_mix.specs.Values.{AreReduced, slope_at}
 use Rattle.zr_mix.proofs.Places.{all_at_means, mean_there}
 use Rattle.zr_mix.proofs.slopes.slope.Goals as goal

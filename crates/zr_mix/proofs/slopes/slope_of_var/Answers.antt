@@ -11,13 +11,13 @@ use Rattle.zr_mix.proofs.slopes.slope_of_var.Goals as goal
 use Rattle.zr_mix.proofs.slopes.slope_of_var.Goals.{After-with_terms}
 
 pub with_terms-requires : goal.with_terms-requires
-with_terms-requires c = record { means = rw c.deref.ensures.value c.requires; lowest = c.number-own.ensures.lowest }
+with_terms-requires c = record { means = rw c.deref.ensures.value c.requires; lowest = c.from-own.ensures.1 }
 
-own_is : (c : After-with_terms) → c.number-own.result ≡ whole (coef_at c.args.player.now.cost.items c.args.v)
+own_is : (c : After-with_terms) → c.from-own.result ≡ whole (coef_at c.args.player.now.cost.items c.args.v)
 own_is c =
     let n : FitsSigned w64 c.number_at.result = search rules in
     let e = rw c.as_slice.ensures at c.number_at.ensures in
-    simp to_z-of_z at c.number-own.ensures.value ∙ ap whole e
+    simp to_z-of_z at c.from-own.ensures.0 ∙ ap whole e
 
 pub returns-clause-steps : goal.returns-clause-steps
 returns-clause-steps c =

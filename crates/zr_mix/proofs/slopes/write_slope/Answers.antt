@@ -5,7 +5,7 @@ use Rattle.zr_game.specs.Games.{game_of}
 use Rattle.zr_game.specs.Players.{player_of}
 use Rattle.zr_mix.specs.Steps.{slope_steps}
 use Rattle.zr_mix.specs.Values.{IsReduced, slope_at}
-use Rattle.zr_mix.proofs.Lists.{more_made, wide_made, writes_err}
+use Rattle.zr_base.proofs.Made.{more_made, wide_made, writes_err}
 use Rattle.zr_mix.proofs.slopes.write_slope.Goals as goal
 
 pub returns-in_err-out-clause-steps : goal.returns-in_err-out-clause-steps

@@ -4,7 +4,7 @@ use Rattle.zr_game.specs.Games.{game_of}
 use Rattle.zr_game.specs.Players.{player_of}
 use Rattle.zr_mix.specs.Steps.{slope_steps}
 use Rattle.zr_mix.specs.Values.{IsReduced, slope_at}
-use Rattle.zr_mix.proofs.Lists.{Made}
+use Rattle.zr_base.proofs.Made.{Made}
 use Rattle.zr_mix.proofs.slopes.write_slope.Given as goal
 
 abbrev pub invariant-loop-v : goal.invariant-loop-v

@@ -1,9 +1,8 @@
 use Rattle.std.proofs.Common.{◌≡◌, ◌∙◌, arith, sym, subst, ap₂, pos, length}
 use Rattle.std.proofs.lemmas.Result.{err_from_is_err_and}
-use Rattle.zr_base.specs.Fractions.{Fraction, HaveSameCross, times, whole}
+use Rattle.zr_base.specs.Fractions.{Fraction, IsSame, times, whole}
 use Rattle.zr_base.specs.Lowest.{mul_of}
 use Rattle.zr_base.proofs.SumSteps.{get_or_default}
-use Rattle.zr_game.proofs.CostSums.{reduce_whole}
 use Rattle.zr_mix.specs.Values.{item_of}
 use Rattle.zr_mix.proofs.Products.{ValueOf, exact_of, made_of, more_of, none_of, sum_wide, term_wide, value_along}
 use Rattle.zr_mix.proofs.values.value.Goals as goal
@@ -17,8 +16,7 @@ mean_item c = c.index-mean-v.is ∙ get_or_default c.args.mean.now c.loop-v.v c.
 
 pub loop-v-init : goal.loop-v-init
 loop-v-init c =
-    let v = rw c.unwrap-sum.ensures at c.new.ensures.value in
-    subst (λ (s : Fraction). ValueOf c.args.slope.now c.args.mean.now 0 s) (sym (v ∙ reduce_whole (pos 0))) (none_of c.args.slope.now c.args.mean.now)
+    subst (λ (s : Fraction). ValueOf c.args.slope.now c.args.mean.now 0 s) (sym c.from-sum.ensures.0) (none_of c.args.slope.now c.args.mean.now)
 
 pub returns-in_err-term-clause-steps : goal.returns-in_err-term-clause-steps
 returns-in_err-term-clause-steps c =
@@ -35,8 +33,8 @@ returns-in_err-sum-clause-steps c =
 pub loop-v-preserved : goal.loop-v-preserved
 loop-v-preserved c =
     let at = (goal.at.loop-v-preserved c).After-index-mean-v in
-    let same = subst (λ (x : Fraction). HaveSameCross c.in_ok-term.term x) (ap₂ times (slope_item at) (mean_item at)) c.in_ok-term.ensures.exact in
-    more_of c.args.slope.now c.args.mean.now c.loop-v.v c.loop-v.sum c.loop-v.invariant c.requires c.loop-v-test.true c.in_ok-term.term c.in_ok-sum.sum (c.in_ok-term.ensures.steps ∙ ap₂ mul_of (slope_item at) (mean_item at)) same c.in_ok-term.ensures.lowest c.in_ok-sum.ensures.steps c.in_ok-sum.ensures.exact c.in_ok-sum.ensures.lowest
+    let same = subst (λ (x : Fraction). IsSame c.in_ok-term.term x) (ap₂ times (slope_item at) (mean_item at)) c.in_ok-term.ensures.exact in
+    more_of c.args.slope.now c.args.mean.now c.loop-v.v c.loop-v.sum c.loop-v.invariant c.requires c.loop-v-test.true c.in_ok-term.term c.in_ok-sum.sum (c.in_ok-term.ensures.steps ∙ ap₂ mul_of (slope_item at) (mean_item at)) same c.in_ok-sum.ensures.steps c.in_ok-sum.ensures.exact c.in_ok-sum.ensures.lowest
 
 pub returns-clause-steps : goal.returns-clause-steps
 returns-clause-steps c =

@@ -3,7 +3,7 @@ use Rattle.std.proofs.lemmas.List.{take-map}
 use Rattle.zr_game.specs.Players.{player_of}
 use Rattle.zr_mix.specs.Steps.{var_total}
 use Rattle.zr_mix.proofs.Places.{no_player, one_player}
-use Rattle.zr_mix.proofs.slopes.place.Goals as goal
+use Rattle.zr_mix.proofs.place.place.Goals as goal
 
 pub overflow_add-before : goal.overflow_add-before
 overflow_add-before c =

@@ -1,7 +1,7 @@
 use Rattle.std.proofs.Common.{◌≡◌, ◌+◌, drop, map, take}
 use Rattle.zr_game.specs.Players.{player_of}
 use Rattle.zr_mix.specs.Steps.{var_total}
-use Rattle.zr_mix.proofs.slopes.place.Given as goal
+use Rattle.zr_mix.proofs.place.place.Given as goal
 
 abbrev pub invariant-loop-player : goal.invariant-loop-player
 invariant-loop-player l =
