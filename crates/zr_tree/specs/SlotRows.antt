@@ -1,11 +1,18 @@
 -- The rows of slots as the code has them.
-use Rattle.std.specs.Prelude.{ℕ, ◌<◌, ℤ, neg_ℤ, Bool, true, false}
+use Rattle.std.specs.Prelude.{ℕ, ◌<◌, ℤ, neg_ℤ, Bool, true, false, List, Option}
 use Rattle.zr_base.specs.Terms.{coef_at}
 use Rattle.zr_game.specs.Forms.{AreTerms}
-use Rattle.zr_game.specs.Leaves.{Bound, at_column}
+use Rattle.zr_game.specs.declared.leaf.Leaf.{Leaf}
+use Rattle.zr_game.specs.declared.player.Player.{Player}
+use Rattle.zr_game.specs.Leaves.{Bound, at_column, leaf_of, slots}
+use Rattle.zr_game.specs.Players.{player_of}
 use Rattle.zr_tree.specs.declared.slot.Left.{Left}
 use Rattle.zr_tree.specs.declared.slot.Left.TheVariants.{Terms, Column}
 use Rattle.zr_tree.specs.declared.slot.SlotRow.{SlotRow}
+
+-- the leaf's slots
+abbrev pub rows_at : Player → Leaf → List (Option Bound)
+rows_at player leaf = slots (player_of player) (leaf_of leaf)
 
 -- a number, with its sign turned where that is wanted
 abbrev pub signed : Bool → ℤ → ℤ

@@ -5,8 +5,8 @@ ghost use Rattle.zr_game.specs.Players.{PlayerOf, player_of};
 ghost use Rattle.zr_game.specs.Games.{game_of};
 ghost use Rattle.zr_game.specs.Forms.{IsPlayer};
 ghost use Rattle.zr_game.specs.Feasible.{IsFeasible};
-ghost use Rattle.zr_game.specs.Leaves.{BoundHolds, IsOpenPair, IsWholeVar, above, below, decided, leaf_of, root_leaf};
-ghost use Rattle.zr_tree.specs.Nodes.{ProofNode, node_of};
+ghost use Rattle.zr_game.specs.Leaves.{BoundHolds, IsOpenPair, IsWholeVar, leaf_of, root_leaf};
+ghost use Rattle.zr_tree.specs.Nodes.{ChooseNode, ProofNode, SplitNode, node_of};
 ghost use Rattle.zr_tree.specs.Form.{IsNodeForm, greatest_split};
 ghost use Rattle.zr_tree.specs.Trees.{TreeOf, preorder};
 ghost use Rattle.zr_tree.specs.Listed.{IsTreeOf, bound_of};
@@ -28,11 +28,11 @@ use zr_game::{Game, Leaf, Player, Side};
 /// the number of players. `coef` has a number for each of the player's variables.
 ///
 /// The tree is walked from its root leaf, each node before its children (A. H. Land and A. G. Doig,
-/// 1960; as a proof that is checked by itself: K. K. H. Cheung, A. Gleixner and D. E. Steffy, 2017).
-/// The first node that is refused is the answer: a split of a variable that isn't whole or doesn't
-/// exist, a choice of a pair that is decided or doesn't exist, a leaf whose slots, multiplied, don't
-/// prove the row and don't refute the leaf, and a node that says nothing of the row. At a leaf where
-/// all slots are present, a sum that is too wide comes before that.
+/// 1960; as a proof that is checked by itself: K. K. H. Cheung, A. Gleixner and D. E. Steffy,
+/// 2017). The first node that is refused is the answer: a split of a variable that isn't whole or
+/// doesn't exist, a choice of a pair that is decided or doesn't exist, a leaf whose slots,
+/// multiplied, don't prove the row and don't refute the leaf, and a node that says nothing of the
+/// row. At a leaf where all slots are present, a sum that is too wide comes before that.
 ///
 /// `scratch` has places for the tree's nodes, the player's columns, and the greatest numbers of
 /// variables and pairs of the game; it keeps them.
@@ -45,15 +45,25 @@ pub fn bounds(
     scratch: &mut Scratch,
 ) -> Result<(), Fault>
     requires number { i < length (game_of game.now) }
-    requires coef { (player : PlayerOf) → IsPlayer (game_of game.now) i player → length coef.now ≡ length player.vars }
+    requires coef { (player : PlayerOf) → IsPlayer (game_of game.now) i player
+        → length coef.now ≡ length player.vars }
     requires nodes { length tree.now.nodes.items ≤ scratch.old.nodes }
-    requires columns { (player : PlayerOf) → IsPlayer (game_of game.now) i player → length player.vars ≤ scratch.old.columns }
+    requires columns { (player : PlayerOf) → IsPlayer (game_of game.now) i player
+        → length player.vars ≤ scratch.old.columns }
     requires vars { most_vars (game_of game.now) ≤ scratch.old.vars }
     requires pairs { most_pairs (game_of game.now) ≤ scratch.old.pairs }
-    ensures ok { OnOk result ((player : PlayerOf) → IsPlayer (game_of game.now) i player → (t : TreeOf) → IsTreeOf tree.now t → Passes player (bound_of coef.now le) (root_leaf player) t) }
-    ensures err { IfErr result (λ fault. (player : PlayerOf) → IsPlayer (game_of game.now) i player → (t : TreeOf) → IsTreeOf tree.now t → IsRefusedAt player (bound_of coef.now le) 0 (root_leaf player) t fault) }
-    ensures exact { (player : PlayerOf) → IsPlayer (game_of game.now) i player → (t : TreeOf) → IsTreeOf tree.now t → IsOk result ↔ (IsRight player (bound_of coef.now le) (root_leaf player) t × (HasWideProof player (bound_of coef.now le) (root_leaf player) t → ⊥)) }
-    ensures sound { OnOk result ((player : PlayerOf) → IsPlayer (game_of game.now) i player → (x : PointOf) → IsFeasible player x → BoundHolds player x (bound_of coef.now le)) }
+    ensures ok { OnOk result ((player : PlayerOf) → IsPlayer (game_of game.now) i player
+        → (t : TreeOf) → IsTreeOf tree.now t
+        → Passes player (bound_of coef.now le) (root_leaf player) t) }
+    ensures err { IfErr result (λ fault. (player : PlayerOf) → IsPlayer (game_of game.now) i player
+        → (t : TreeOf) → IsTreeOf tree.now t
+        → IsRefusedAt player (bound_of coef.now le) 0 (root_leaf player) t fault) }
+    ensures exact { (player : PlayerOf) → IsPlayer (game_of game.now) i player
+        → (t : TreeOf) → IsTreeOf tree.now t
+        → IsOk result ↔ (IsRight player (bound_of coef.now le) (root_leaf player) t
+        × (HasWideProof player (bound_of coef.now le) (root_leaf player) t → ⊥)) }
+    ensures sound { OnOk result ((player : PlayerOf) → IsPlayer (game_of game.now) i player
+        → (x : PointOf) → IsFeasible player x → BoundHolds player x (bound_of coef.now le)) }
     ensures places { scratch.new ≡ scratch.old }
 {
     let player = &game.players[i as usize];
@@ -75,8 +85,12 @@ fn walk(
     requires frames { length nodes.now ≤ length room.old.path.frames.items }
     requires few { length nodes.now < 2 ^ 32 }
     requires nodes { All IsNodeForm (map node_of nodes.now) }
-    ensures ok { OnOk result ((t : TreeOf) → preorder t ≡ map node_of nodes.now → Passes (player_of player.now) (bound_of coef.now le) (root_leaf (player_of player.now)) t) }
-    ensures err { IfErr result (λ fault. (t : TreeOf) → preorder t ≡ map node_of nodes.now → IsRefusedAt (player_of player.now) (bound_of coef.now le) 0 (root_leaf (player_of player.now)) t fault) }
+    ensures ok { OnOk result ((t : TreeOf) → preorder t ≡ map node_of nodes.now
+        → Passes (player_of player.now) (bound_of coef.now le)
+        (root_leaf (player_of player.now)) t) }
+    ensures err { IfErr result (λ fault. (t : TreeOf) → preorder t ≡ map node_of nodes.now
+        → IsRefusedAt (player_of player.now) (bound_of coef.now le) 0
+        (root_leaf (player_of player.now)) t fault) }
     ensures size { IsSameSize room.old.path room.new.path }
     ensures sums { length room.new.sums.items ≡ length room.old.sums.items }
 {
@@ -102,9 +116,12 @@ fn visit(
     requires columns { length (player_of player.now).vars ≤ length room.old.sums.items }
     requires place { room.old.path.depth < length room.old.path.frames.items }
     requires node { IsNodeForm (node_of node.now) }
-    ensures ok { OnOk result (NodePassesRow (player_of player.now) (bound_of coef.now le) (leaf_of room.old.path.leaf) (node_of node.now)) }
-    ensures entered { OnOk result (Entered (player_of player.now) (children (leaf_of room.old.path.leaf) (node_of node.now)) room.old.path room.new.path) }
-    ensures err { IfErr result (NodeRefusesRow (player_of player.now) (bound_of coef.now le) k (leaf_of room.old.path.leaf) (node_of node.now)) }
+    ensures ok { OnOk result (NodePassesRow (player_of player.now) (bound_of coef.now le)
+        (leaf_of room.old.path.leaf) (node_of node.now)) }
+    ensures entered { OnOk result (Entered (player_of player.now)
+        (children (leaf_of room.old.path.leaf) (node_of node.now)) room.old.path room.new.path) }
+    ensures err { IfErr result (NodeRefusesRow (player_of player.now) (bound_of coef.now le) k
+        (leaf_of room.old.path.leaf) (node_of node.now)) }
     ensures size { IsSameSize room.old.path room.new.path }
     ensures sums { length room.new.sums.items ≡ length room.old.sums.items }
 {
@@ -122,8 +139,10 @@ fn visit_split(player: &Player, var: u32, at: i64, k: u32, path: &mut Path) -> R
     requires path { IsPathOf (player_of player.now) path.old }
     requires place { path.old.depth < length path.old.frames.items }
     ensures ok { OnOk result (IsWholeVar (player_of player.now) var) }
-    ensures entered { OnOk result (Entered (player_of player.now) (below (leaf_of path.old.leaf) var at ∷ above (leaf_of path.old.leaf) var at ∷ []) path.old path.new) }
-    ensures err { IfErr result (λ fault. (IsWholeVar (player_of player.now) var → ⊥) × (fault ≡ Fault.Bad k)) }
+    ensures entered { OnOk result (Entered (player_of player.now)
+        (children (leaf_of path.old.leaf) (SplitNode var at)) path.old path.new) }
+    ensures err { IfErr result (λ fault. (IsWholeVar (player_of player.now) var → ⊥)
+        × (fault ≡ Fault.Bad k)) }
     ensures size { IsSameSize path.old path.new }
 {
     if !is_whole(player, var) {
@@ -137,8 +156,11 @@ fn visit_choice(player: &Player, pair: u32, k: u32, path: &mut Path) -> Result<(
     requires path { IsPathOf (player_of player.now) path.old }
     requires place { path.old.depth < length path.old.frames.items }
     ensures ok { OnOk result (IsOpenPair (player_of player.now) (leaf_of path.old.leaf) pair) }
-    ensures entered { OnOk result (Entered (player_of player.now) (decided (leaf_of path.old.leaf) pair Side.VarZero ∷ decided (leaf_of path.old.leaf) pair Side.RowZero ∷ []) path.old path.new) }
-    ensures err { IfErr result (λ fault. (IsOpenPair (player_of player.now) (leaf_of path.old.leaf) pair → ⊥) × (fault ≡ Fault.Bad k)) }
+    ensures entered { OnOk result (Entered (player_of player.now)
+        (children (leaf_of path.old.leaf) (ChooseNode pair)) path.old path.new) }
+    ensures err { IfErr result (λ fault.
+        (IsOpenPair (player_of player.now) (leaf_of path.old.leaf) pair → ⊥)
+        × (fault ≡ Fault.Bad k)) }
     ensures size { IsSameSize path.old path.new }
 {
     if !is_open(player, pair, &path.leaf) {
@@ -162,9 +184,11 @@ fn visit_proof(
     requires coef { length coef.now ≡ length (player_of player.now).vars }
     requires columns { length (player_of player.now).vars ≤ length room.old.sums.items }
     requires positive { ArePositive mult.now }
-    ensures ok { OnOk result (NodePassesRow (player_of player.now) (bound_of coef.now le) (leaf_of room.old.path.leaf) (ProofNode scale mult.now)) }
+    ensures ok { OnOk result (NodePassesRow (player_of player.now) (bound_of coef.now le)
+        (leaf_of room.old.path.leaf) (ProofNode scale mult.now)) }
     ensures entered { OnOk result (Entered (player_of player.now) [] room.old.path room.new.path) }
-    ensures err { IfErr result (NodeRefusesRow (player_of player.now) (bound_of coef.now le) k (leaf_of room.old.path.leaf) (ProofNode scale mult.now)) }
+    ensures err { IfErr result (NodeRefusesRow (player_of player.now) (bound_of coef.now le) k
+        (leaf_of room.old.path.leaf) (ProofNode scale mult.now)) }
     ensures size { IsSameSize room.old.path room.new.path }
     ensures sums { length room.new.sums.items ≡ length room.old.sums.items }
 {

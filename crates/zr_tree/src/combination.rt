@@ -5,10 +5,10 @@ ghost use Rattle.zr_base.specs.Sums.{sum_step};
 ghost use Rattle.zr_base.specs.Terms.{coef_at};
 ghost use Rattle.zr_game.specs.Forms.{AreTerms};
 ghost use Rattle.zr_game.specs.Players.{player_of};
-ghost use Rattle.zr_game.specs.Leaves.{at_column, leaf_of, slots};
+ghost use Rattle.zr_game.specs.Leaves.{at_column};
 ghost use Rattle.zr_tree.specs.Paths.{HasPlaces};
 ghost use Rattle.zr_tree.specs.Right.{slot_coef, slot_le};
-ghost use Rattle.zr_tree.specs.SlotRows.{IsLeft, left_coef, signed};
+ghost use Rattle.zr_tree.specs.SlotRows.{IsLeft, left_coef, rows_at, signed};
 ghost use Rattle.zr_tree.specs.Combining.{AreAdded, HasWideColumn, HasWideStep, IsCombined};
 ghost use Rattle.zr_tree.specs.Visits.{HasForms};
 
@@ -27,8 +27,9 @@ pub(crate) fn combine(
     requires forms { HasForms (player_of player.now) }
     requires places { HasPlaces (player_of player.now) leaf.now }
     requires columns { length sums.old ≡ length (player_of player.now).vars }
-    ensures ok { IfOk result (IsCombined (slots (player_of player.now) (leaf_of leaf.now)) mult.now sums.new) }
-    ensures wide { IfErr result (λ _. HasWideStep (length (player_of player.now).vars) (slots (player_of player.now) (leaf_of leaf.now)) mult.now) }
+    ensures ok { IfOk result (IsCombined (rows_at player.now leaf.now) mult.now sums.new) }
+    ensures wide { IfErr result (λ _. HasWideStep (length (player_of player.now).vars)
+        (rows_at player.now leaf.now) mult.now) }
 {
     clear(sums);
     let mut le = 0;
@@ -60,9 +61,13 @@ fn add_slot(
     requires columns { length sums.old ≡ length (player_of player.now).vars }
     requires narrow { All IsNarrow sums.old }
     requires narrow_le { IsNarrow le }
-    ensures left { OnOk result (AreAdded sums.old (slot_coef (slots (player_of player.now) (leaf_of leaf.now)) slot) by sums.new) }
-    ensures right { IfOk result (λ new. sum_step le (by, slot_le (slots (player_of player.now) (leaf_of leaf.now)) slot) ≡ Ok new) }
-    ensures wide { IfErr result (λ _. HasWideColumn sums.old (slot_coef (slots (player_of player.now) (leaf_of leaf.now)) slot) by ⊎ IsErr (sum_step le (by, slot_le (slots (player_of player.now) (leaf_of leaf.now)) slot))) }
+    ensures left { OnOk result (AreAdded sums.old
+        (slot_coef (rows_at player.now leaf.now) slot) by sums.new) }
+    ensures right { IfOk result (λ new.
+        sum_step le (by, slot_le (rows_at player.now leaf.now) slot) ≡ Ok new) }
+    ensures wide { IfErr result (λ _.
+        HasWideColumn sums.old (slot_coef (rows_at player.now leaf.now) slot) by
+        ⊎ IsErr (sum_step le (by, slot_le (rows_at player.now leaf.now) slot))) }
 {
     match slot_row(player, leaf, slot) {
         None => Ok(le),
@@ -89,8 +94,10 @@ fn add_left(left: &Left, by: i128, sums: &mut [i128]) -> Result<(), Wide>
 fn add_terms(terms: &[(u32, i64)], negated: bool, by: i128, sums: &mut [i128]) -> Result<(), Wide>
     requires terms { AreTerms (length sums.old) terms.now }
     requires narrow { All IsNarrow sums.old }
-    ensures sums { OnOk result (AreAdded sums.old (λ j. signed negated (coef_at terms.now j)) by sums.new) }
-    ensures wide { IfErr result (λ _. HasWideColumn sums.old (λ j. signed negated (coef_at terms.now j)) by) }
+    ensures sums { OnOk result (AreAdded sums.old
+        (λ j. signed negated (coef_at terms.now j)) by sums.new) }
+    ensures wide { IfErr result (λ _.
+        HasWideColumn sums.old (λ j. signed negated (coef_at terms.now j)) by) }
 {
     for (column, number) in terms {
         let column = *column as usize;

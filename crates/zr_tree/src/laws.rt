@@ -20,9 +20,15 @@ pub fn law_of_nodes()
 /// A tree passes exactly where it is right and no step of its proofs is too wide; it is then not
 /// refused, and a tree that is refused has one fault.
 pub fn law_of_passing()
-    ensures passes { (player : PlayerOf) (bound : Bound) (leaf : LeafOf) (t : TreeOf) → Passes player bound leaf t ↔ (IsRight player bound leaf t × (HasWideProof player bound leaf t → ⊥)) }
-    ensures apart { (player : PlayerOf) (bound : Bound) (k : ℕ) (leaf : LeafOf) (t : TreeOf) (fault : Fault) → Passes player bound leaf t → IsRefusedAt player bound k leaf t fault → ⊥ }
-    ensures one { (player : PlayerOf) (bound : Bound) (k : ℕ) (leaf : LeafOf) (t : TreeOf) (f g : Fault) → IsRefusedAt player bound k leaf t f → IsRefusedAt player bound k leaf t g → f ≡ g }
+    ensures passes { (player : PlayerOf) (bound : Bound) (leaf : LeafOf) (t : TreeOf)
+        → Passes player bound leaf t
+        ↔ (IsRight player bound leaf t × (HasWideProof player bound leaf t → ⊥)) }
+    ensures apart { (player : PlayerOf) (bound : Bound) (k : ℕ) (leaf : LeafOf) (t : TreeOf)
+        → (fault : Fault) → Passes player bound leaf t
+        → IsRefusedAt player bound k leaf t fault → ⊥ }
+    ensures one { (player : PlayerOf) (bound : Bound) (k : ℕ) (leaf : LeafOf) (t : TreeOf)
+        → (f g : Fault) → IsRefusedAt player bound k leaf t f
+        → IsRefusedAt player bound k leaf t g → f ≡ g }
 {}
 
 /// A row that a right tree proves holds at every feasible point.
@@ -32,11 +38,13 @@ pub fn law_of_right_trees()
         → (x : PointOf) → IsFeasible player x → BoundHolds player x bound }
 {}
 
-/// A player has no feasible point where a tree refutes its root leaf. Such a tree is right for every
-/// row, and a tree that is right for a row is such a tree where each proof has the scale 0.
+/// A player has no feasible point where a tree refutes its root leaf; and such a tree is right for
+/// every row.
 pub fn law_of_refuted_trees()
-    ensures none { (game : GameOf) → IsGame game → (i : ℕ) (player : PlayerOf) → IsPlayer game i player
-        → (t : TreeOf) → IsRefuted player (root_leaf player) t → (x : PointOf) → IsFeasible player x → ⊥ }
+    ensures none { (game : GameOf) → IsGame game
+        → (i : ℕ) (player : PlayerOf) → IsPlayer game i player
+        → (t : TreeOf) → IsRefuted player (root_leaf player) t
+        → (x : PointOf) → IsFeasible player x → ⊥ }
     ensures every { (player : PlayerOf) (bound : Bound) (leaf : LeafOf) (t : TreeOf)
         → IsRefuted player leaf t → IsRight player bound leaf t }
 {}

@@ -1,8 +1,10 @@
 ghost use Rattle.std.specs.Prelude.{◌≡◌, ◌<◌, ◌≤◌, ℕ, pos, ◌+ℤ◌, ◌≤ℤ◌, [], ◌∷◌, IsTrue, None, length, map, slice_index_or};
 ghost use Rattle.zr_game.specs.Players.{player_of, var_of};
-ghost use Rattle.zr_game.specs.Leaves.{above, below, decided, greater, leaf_of, lesser, low_of, root_leaf, up_of};
+ghost use Rattle.zr_game.specs.Leaves.{greater, leaf_of, lesser, low_of, root_leaf, up_of};
 ghost use Rattle.zr_tree.specs.Form.{greatest_split};
+ghost use Rattle.zr_tree.specs.Nodes.{ChooseNode, SplitNode};
 ghost use Rattle.zr_tree.specs.Paths.{Entered, HasPlaces, IsPathOf, IsSameSize, due_of};
+ghost use Rattle.zr_tree.specs.Visits.{children};
 
 use zr_game::{Leaf, Player, Side, Var};
 
@@ -107,7 +109,8 @@ pub(crate) fn enter_split(player: &Player, var: u32, at: i64, path: &mut Path)
     requires at { at ≤ℤ greatest_split }
     requires path { IsPathOf (player_of player.now) path.old }
     requires place { path.old.depth < length path.old.frames.items }
-    ensures { Entered (player_of player.now) (below (leaf_of path.old.leaf) var at ∷ above (leaf_of path.old.leaf) var at ∷ []) path.old path.new }
+    ensures { Entered (player_of player.now)
+        (children (leaf_of path.old.leaf) (SplitNode var at)) path.old path.new }
 {
     let high = path.leaf.high[var as usize];
     path.leaf.high[var as usize] = Some(lesser_of(high, at));
@@ -143,7 +146,8 @@ pub(crate) fn enter_choice(player: &Player, pair: u32, path: &mut Path)
     requires undecided { (leaf_of path.old.leaf).side pair ≡ Side.Undecided }
     requires path { IsPathOf (player_of player.now) path.old }
     requires place { path.old.depth < length path.old.frames.items }
-    ensures { Entered (player_of player.now) (decided (leaf_of path.old.leaf) pair Side.VarZero ∷ decided (leaf_of path.old.leaf) pair Side.RowZero ∷ []) path.old path.new }
+    ensures { Entered (player_of player.now)
+        (children (leaf_of path.old.leaf) (ChooseNode pair)) path.old path.new }
 {
     path.leaf.sides[pair as usize] = Side::VarZero;
     path.frames[path.depth] = Frame::FirstOfChoice { pair };
@@ -167,7 +171,8 @@ fn leave(player: &Player, path: &mut Path) -> bool
     requires path { IsPathOf (player_of player.now) path.old }
     requires depth { 0 < path.old.depth }
     ensures second { IsTrue result → due_of path.old ≡ leaf_of path.new.leaf ∷ due_of path.new }
-    ensures back { (IsTrue result → ⊥) → (due_of path.old ≡ due_of path.new) × (path.new.depth < path.old.depth) }
+    ensures back { (IsTrue result → ⊥) → (due_of path.old ≡ due_of path.new)
+        × (path.new.depth < path.old.depth) }
     ensures path { IsPathOf (player_of player.now) path.new }
     ensures size { IsSameSize path.old path.new }
     ensures depth { path.new.depth ≤ path.old.depth }

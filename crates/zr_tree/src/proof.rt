@@ -32,7 +32,8 @@ pub(crate) fn proves(
     requires coef { length coef.now ≡ length (player_of player.now).vars }
     requires columns { length (player_of player.now).vars ≤ length sums.old }
     requires positive { ArePositive mult.now }
-    ensures { ProofTells result (player_of player.now) (bound_of coef.now le) (leaf_of leaf.now) scale mult.now }
+    ensures { ProofTells result (player_of player.now) (bound_of coef.now le)
+        (leaf_of leaf.now) scale mult.now }
 {
     evaluate(player, leaf, scale, mult, coef, le, &mut sums[..coef.len()])
 }
@@ -51,7 +52,8 @@ fn evaluate(
     requires coef { length coef.now ≡ length (player_of player.now).vars }
     requires columns { length sums.old ≡ length (player_of player.now).vars }
     requires positive { ArePositive mult.now }
-    ensures { ProofTells result (player_of player.now) (bound_of coef.now le) (leaf_of leaf.now) scale mult.now }
+    ensures { ProofTells result (player_of player.now) (bound_of coef.now le)
+        (leaf_of leaf.now) scale mult.now }
 {
     if !are_present(player, leaf, mult) {
         return Ok(false);
@@ -65,7 +67,9 @@ fn evaluate(
 /// Whether the sums are `scale` times the row's numbers.
 fn matches(scale: i128, coef: &[i128], sums: &[i128]) -> Result<bool, Wide>
     requires { length sums.now ≡ length coef.now }
-    ensures { Tells result ((j : ℕ) → j < length coef.now → slice_index_or sums.now j (pos 0) ≡ scale *ℤ slice_index_or coef.now j (pos 0)) (first_wide (λ c. wide_in (cross_of (scale, c) (pos 0, pos 0))) coef.now) }
+    ensures { Tells result ((j : ℕ) → j < length coef.now
+        → slice_index_or sums.now j (pos 0) ≡ scale *ℤ slice_index_or coef.now j (pos 0))
+        (first_wide (λ c. wide_in (cross_of (scale, c) (pos 0, pos 0))) coef.now) }
 {
     let mut all = true;
     for (j, number) in coef.iter().enumerate() {
@@ -75,7 +79,8 @@ fn matches(scale: i128, coef: &[i128], sums: &[i128]) -> Result<bool, Wide>
 }
 
 fn is_multiple(scale: i128, number: i128, sum: i128) -> Result<bool, Wide>
-    ensures { Tells result (sum ≡ scale *ℤ number) (wide_in (cross_of (scale, number) (pos 0, pos 0))) }
+    ensures { Tells result (sum ≡ scale *ℤ number)
+        (wide_in (cross_of (scale, number) (pos 0, pos 0))) }
 {
     let product = cross((scale, number), (0, 0))?;
     Ok(is_same(sum, product))
@@ -89,14 +94,17 @@ fn is_same(sum: i128, product: i128) -> bool
 
 /// Whether the right side is at most `scale * le`, or below zero where the scale is 0.
 fn is_below(scale: i128, le: i128, right: i128) -> Result<bool, Wide>
-    ensures { Tells result (((pos 1 ≤ℤ scale) × (right ≤ℤ (scale *ℤ le))) ⊎ ((scale ≡ pos 0) × (right <ℤ (pos 0)))) (wide_in (cross_of (scale, le) (pos 0, pos 0))) }
+    ensures { Tells result (((pos 1 ≤ℤ scale) × (right ≤ℤ (scale *ℤ le)))
+        ⊎ ((scale ≡ pos 0) × (right <ℤ (pos 0))))
+        (wide_in (cross_of (scale, le) (pos 0, pos 0))) }
 {
     let product = cross((scale, le), (0, 0))?;
     Ok(is_at_most(scale, product, right))
 }
 
 fn is_at_most(scale: i128, product: i128, right: i128) -> bool
-    ensures { IsTrue result ↔ (((pos 1 ≤ℤ scale) × (right ≤ℤ product)) ⊎ ((scale ≡ pos 0) × (right <ℤ (pos 0)))) }
+    ensures { IsTrue result ↔ (((pos 1 ≤ℤ scale) × (right ≤ℤ product))
+        ⊎ ((scale ≡ pos 0) × (right <ℤ (pos 0)))) }
 {
     scale >= 1 && right <= product || scale == 0 && right < 0
 }

@@ -34,14 +34,20 @@ impl Model for Scratch {
 }
 
 impl Scratch {
-    /// Room for trees of so many nodes over the players of the game, and for rows of so many columns.
+    /// Room for trees of so many nodes over the players of the game, and for rows of so many
+    /// columns.
     pub fn new(
         alloc: Global,
         game: &Game,
         nodes: usize,
         columns: usize,
     ) -> Result<Scratch, NoMemory>
-        ensures { IfOk result (λ scratch. scratch ≡ record { nodes = nodes; columns = columns; vars = most_vars (game_of game.now); pairs = most_pairs (game_of game.now) }) }
+        ensures { IfOk result (λ scratch. scratch ≡ record {
+          nodes = nodes;
+          columns = columns;
+          vars = most_vars (game_of game.now);
+          pairs = most_pairs (game_of game.now);
+        }) }
     {
         let vars = greatest_vars(&game.players);
         let pairs = greatest_pairs(&game.players);

@@ -1,10 +1,10 @@
 ghost use Rattle.std.specs.Prelude.{◌≡◌, ◌↔◌, ◌<◌, ℕ, IsTrue, IfSome, if◌then◌else◌, length, option_map};
 ghost use Rattle.zr_game.specs.Players.{pair_of, player_of};
 ghost use Rattle.zr_game.specs.Forms.{IsPairForm};
-ghost use Rattle.zr_game.specs.Leaves.{high_slot, leaf_of, low_slot, pair_slot, side_slot, slot_of, slots};
+ghost use Rattle.zr_game.specs.Leaves.{high_slot, low_slot, pair_slot, side_slot, slot_of};
 ghost use Rattle.zr_tree.specs.Paths.{HasPlaces};
 ghost use Rattle.zr_tree.specs.Right.{ArePresent};
-ghost use Rattle.zr_tree.specs.SlotRows.{IsLeft, slot_bound};
+ghost use Rattle.zr_tree.specs.SlotRows.{IsLeft, rows_at, slot_bound};
 ghost use Rattle.zr_tree.specs.Visits.{HasForms};
 
 use zr_game::{Leaf, Pair, Player, Side};
@@ -35,7 +35,7 @@ pub(crate) struct SlotRow<'a> {
 pub(crate) fn slot_row<'a>(player: &'a Player, leaf: &Leaf, slot: usize) -> Option<SlotRow<'a>>
     requires forms { HasForms (player_of player.now) }
     requires places { HasPlaces (player_of player.now) leaf.now }
-    ensures row { option_map slot_bound result ≡ slot_of (slots (player_of player.now) (leaf_of leaf.now)) slot }
+    ensures row { option_map slot_bound result ≡ slot_of (rows_at player.now leaf.now) slot }
     ensures form { IfSome result (λ row. IsLeft (length (player_of player.now).vars) row.left) }
 {
     if slot < player.rows.len() {
@@ -64,7 +64,8 @@ pub(crate) fn slot_row<'a>(player: &'a Player, leaf: &Leaf, slot: usize) -> Opti
 
 /// `-var <= -low`, or where `second` `var <= high`, if there is such a bound.
 fn var_row<'a>(var: usize, second: bool, low: Option<i64>, high: Option<i64>) -> Option<SlotRow<'a>>
-    ensures row { option_map slot_bound result ≡ (if second then high_slot var high else low_slot var low) }
+    ensures row { option_map slot_bound result ≡
+        (if second then high_slot var high else low_slot var low) }
     ensures form { (columns : ℕ) → var < columns → IfSome result (λ row. IsLeft columns row.left) }
 {
     if second {
@@ -102,8 +103,10 @@ fn high_row<'a>(var: usize, high: Option<i64>) -> Option<SlotRow<'a>>
 
 /// `-coef * x <= add`, or where `second` the row of the pair's side, if it is decided.
 fn pair_row(pair: &Pair, second: bool, side: Side) -> Option<SlotRow<'_>>
-    ensures row { option_map slot_bound result ≡ (if second then side_slot (pair_of pair.now) side else pair_slot (pair_of pair.now)) }
-    ensures form { (columns : ℕ) → IsPairForm columns (pair_of pair.now) → IfSome result (λ row. IsLeft columns row.left) }
+    ensures row { option_map slot_bound result ≡
+        (if second then side_slot (pair_of pair.now) side else pair_slot (pair_of pair.now)) }
+    ensures form { (columns : ℕ) → IsPairForm columns (pair_of pair.now)
+        → IfSome result (λ row. IsLeft columns row.left) }
 {
     let terms = pair.coef.as_slice();
     let add = i128::from(pair.add);
@@ -139,7 +142,7 @@ fn pair_row(pair: &Pair, second: bool, side: Side) -> Option<SlotRow<'_>>
 pub(crate) fn are_present(player: &Player, leaf: &Leaf, mult: &[(u32, i128)]) -> bool
     requires forms { HasForms (player_of player.now) }
     requires places { HasPlaces (player_of player.now) leaf.now }
-    ensures { IsTrue result ↔ ArePresent (slots (player_of player.now) (leaf_of leaf.now)) mult.now }
+    ensures { IsTrue result ↔ ArePresent (rows_at player.now leaf.now) mult.now }
 {
     let mut all = true;
     for (slot, _) in mult {

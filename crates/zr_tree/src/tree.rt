@@ -17,9 +17,9 @@ pub struct Tree {
 impl Tree {
     /// The tree of these nodes.
     ///
-    /// Hands the list back exactly where the nodes aren't one whole tree of fewer than 2^32 nodes or
-    /// break a rule: each `at` is -2^62 to 2^62 - 1, each `scale` is at least 0, multipliers are at
-    /// least 1, and their slots ascend.
+    /// Hands the list back exactly where the nodes aren't one whole tree of fewer than 2^32 nodes
+    /// or break a rule: each `at` is -2^62 to 2^62 - 1, each `scale` is at least 0, multipliers are
+    /// at least 1, and their slots ascend.
     pub fn new(nodes: Vec<Node>) -> Result<Tree, Vec<Node>>
         ensures valid { IsOk result ↔ IsTree (map node_of nodes.items) }
         ensures ok { IfOk result (λ tree. tree.nodes.items ≡ nodes.items) }
