@@ -1,0 +1,4 @@
+pub mod FormTests
+pub mod NameTests
+pub mod Alone
+pub mod ExampleLaws
