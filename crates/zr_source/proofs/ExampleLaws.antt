@@ -14,7 +14,8 @@ row_at_two : All (RowHolds (chosen (pos 2) (pos 2))) greatest.rows
 row_at_two zero d h = omega (arith, ints)
 row_at_two (suc k) d h = absurd (omega arith)
 
-least_at_two : (y : PointOf) → IsChoice greatest (chosen (pos 2) (pos 2)) y → IsAtMost (follower_cost greatest (chosen (pos 2) (pos 2))) (follower_cost greatest y)
+least_at_two : (y : PointOf) → IsChoice greatest (chosen (pos 2) (pos 2)) y
+    → IsAtMost (follower_cost greatest (chosen (pos 2) (pos 2))) (follower_cost greatest y)
 least_at_two y is =
     let x = (is.others 0 (λ o. let a = o.0 in omega arith)).cross in
     let row = is.rows 0 (record { coef = []; le = pos 0 }) (omega arith) in
@@ -28,7 +29,11 @@ unbounded = record { name = []; whole = false; low = Some (pos 0); up = None }
 
 in_bounded : IsWithin bounded (pos 2) (pos 1)
 unfolding bounded
-in_bounded = record { low = omega (arith, ints); high = omega (arith, ints); whole = λ w. absurd cc }
+in_bounded = record {
+  low = omega (arith, ints);
+  high = omega (arith, ints);
+  whole = λ w. absurd cc;
+}
 
 in_unbounded : IsWithin unbounded (pos 2) (pos 1)
 unfolding unbounded
@@ -36,8 +41,12 @@ in_unbounded = record { low = omega (arith, ints); high = tt; whole = λ w. absu
 
 within_two : AreWithin generous.base.vars (chosen (pos 2) (pos 2))
 unfolding bounded unbounded
-within_two zero var e = let s : bounded ≡ var = cc in subst (λ (v : VarOf). IsWithin v (pos 2) (pos 1)) s in_bounded
-within_two (suc zero) var e = let s : unbounded ≡ var = cc in subst (λ (v : VarOf). IsWithin v (pos 2) (pos 1)) s in_unbounded
+within_two zero var e =
+    let s : bounded ≡ var = cc in
+    subst (λ (v : VarOf). IsWithin v (pos 2) (pos 1)) s in_bounded
+within_two (suc zero) var e =
+    let s : unbounded ≡ var = cc in
+    subst (λ (v : VarOf). IsWithin v (pos 2) (pos 1)) s in_unbounded
 within_two (suc (suc v)) var e = absurd cc
 
 pub at_two : IsLeaderFeasible generous (chosen (pos 2) (pos 2))
@@ -68,7 +77,8 @@ more = record {
   rows = row_at_two;
 }
   where
-    others : (v : ℕ) → (IsOwn greatest v → ⊥) → IsSame (value_of (chosen (pos 2) (pos 2)) v) (value_of (chosen (pos 2) (pos 1)) v)
+    others : (v : ℕ) → (IsOwn greatest v → ⊥)
+        → IsSame (value_of (chosen (pos 2) (pos 2)) v) (value_of (chosen (pos 2) (pos 1)) v)
     others zero o = alike (pos 2)
     others (suc zero) o = absurd (o (omega arith, omega arith))
     others (suc (suc v)) o = alike (pos 0)

@@ -7,7 +7,8 @@ use Rattle.zr_source.specs.Sources.{LeaderOf}
 -- a letter, a digit or `_`
 abbrev pub is_name_byte : ℕ → Bool
 is_name_byte b =
-    (nat_le 97 b && nat_le b 122) || (nat_le 65 b && nat_le b 90) || (nat_le 48 b && nat_le b 57) || b == 95
+    (nat_le 97 b && nat_le b 122) || (nat_le 65 b && nat_le b 90) || (nat_le 48 b && nat_le b 57) ||
+    b == 95
 
 -- 1 to 32 of these
 abbrev pub is_name : Name → Bool

@@ -29,4 +29,5 @@ HasNoSourceEquilibrium source kind = HasNoneAmong IsLeaderFeasible leader_cost s
 
 -- no leader has a follower
 abbrev pub HasNoFollowers : SourceOf → Type 0
-HasNoFollowers source = (i : ℕ) (leader : LeaderOf) → IsLeader source i leader → leader.followers ≡ []
+HasNoFollowers source = (i : ℕ) (leader : LeaderOf) → IsLeader source i leader
+    → leader.followers ≡ []

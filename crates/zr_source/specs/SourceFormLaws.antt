@@ -39,4 +39,5 @@ leader_prop : (leader : LeaderOf) → IsProp (IsLeaderForm leader)
 leader_prop leader = hlevel (codes, follower_prop, order_prop, free_prop, names_prop)
 
 pub IsSource-prop : (source : SourceOf) → IsProp (IsSource source)
-IsSource-prop source = let game = IsGame-prop (bases source) in hlevel (codes, game, leader_prop, names_prop)
+IsSource-prop source = let game = IsGame-prop (bases source) in
+    hlevel (codes, game, leader_prop, names_prop)

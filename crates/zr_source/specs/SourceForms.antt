@@ -1,5 +1,5 @@
--- What every source keeps: its numbers are within the limits, each of them that names something names what exists, and
--- names keep their rule and differ.
+-- What every source keeps: its numbers are within the limits, each of them that names something
+-- names what exists, and names keep their rule and differ.
 use Rattle.std.specs.Prelude.{◌≡◌, ℕ, ◌+◌, ◌<◌, ◌≤◌, ℤ, pos, false, None, List, [], ◌∷◌, length, map, slice_get, Some}
 use Rattle.std.specs.List.{All, AllPairs}
 use Rattle.std.specs.Ordering.{nat_cmp, ordering_then}

@@ -6,8 +6,8 @@ use Rattle.zr_game.specs.Players.{GameOf, PlayerOf, player_of}
 use Rattle.zr_source.specs.declared.source.Follower.{Follower}
 use Rattle.zr_source.specs.declared.source.Leader.{Leader}
 
--- a linear program over the leader's variables first, .., first + count - 1. A cross term is an own variable, another
--- variable of the leader, and a number
+-- a linear program over the leader's variables first, .., first + count - 1. A cross term is an own
+-- variable, another variable of the leader, and a number
 pub record FollowerOf : Type 0 where
   pub first : ℕ
   pub count : ℕ

@@ -11,7 +11,8 @@ use zr_game::{Var, are_rows, are_terms, is_coefficient};
 
 /// Whether there are at most 16 followers, and a variable before theirs.
 pub(crate) fn have_own_variable(followers: &[Follower], columns: usize) -> bool
-    ensures { IsTrue result ↔ ((length (map follower_of followers.now) ≤ 16) × (1 ≤ first_of columns (map follower_of followers.now))) }
+    ensures { IsTrue result ↔ ((length (map follower_of followers.now) ≤ 16) ×
+        (1 ≤ first_of columns (map follower_of followers.now))) }
 {
     followers.len() <= 16 && 1 <= first_from(followers, 0, columns)
 }
@@ -38,7 +39,9 @@ fn is_follower(follower: &Follower, columns: usize) -> bool
 }
 
 fn have_place(follower: &Follower, columns: usize) -> bool
-    ensures { IsTrue result ↔ ((follower.now.first + follower.now.count ≤ columns) × (length (follower_of follower.now).rows ≤ 32) × (length (follower_of follower.now).cross ≤ 65536)) }
+    ensures { IsTrue result ↔ ((follower.now.first + follower.now.count ≤ columns) ×
+        (length (follower_of follower.now).rows ≤ 32) ×
+        (length (follower_of follower.now).cross ≤ 65536)) }
 {
     follower.first as usize + follower.count as usize <= columns
         && follower.rows.len() <= 32
@@ -56,7 +59,8 @@ fn are_cross_terms(cross: &[(u32, u32, i64)], follower: &Follower, columns: usiz
 }
 
 fn is_cross_term(own: u32, other: u32, number: i64, follower: &Follower, columns: usize) -> bool
-    ensures { IsTrue result ↔ IsFollowerCross (follower_of follower.now) columns (own, other, number) }
+    ensures { IsTrue result
+        ↔ IsFollowerCross (follower_of follower.now) columns (own, other, number) }
 {
     is_own(follower, own as usize)
         && (other as usize) < columns
@@ -112,7 +116,8 @@ fn first_from(followers: &[Follower], k: usize, columns: usize) -> usize
 
 /// Whether the followers' variables are continuous, with low 0 and without an upper bound.
 pub(crate) fn are_free(vars: &[Var], followers: &[Follower]) -> bool
-    ensures { (base : PlayerOf) → base.vars ≡ map var_of vars.now → (IsTrue result ↔ All (AreFree base) (map follower_of followers.now)) }
+    ensures { (base : PlayerOf) → base.vars ≡ map var_of vars.now
+        → (IsTrue result ↔ All (AreFree base) (map follower_of followers.now)) }
 {
     let mut all = true;
     for follower in followers {
@@ -122,7 +127,8 @@ pub(crate) fn are_free(vars: &[Var], followers: &[Follower]) -> bool
 }
 
 fn is_free(vars: &[Var], follower: &Follower) -> bool
-    ensures { (base : PlayerOf) → base.vars ≡ map var_of vars.now → (IsTrue result ↔ AreFree base (follower_of follower.now)) }
+    ensures { (base : PlayerOf) → base.vars ≡ map var_of vars.now
+        → (IsTrue result ↔ AreFree base (follower_of follower.now)) }
 {
     let mut all = true;
     for (v, var) in vars.iter().enumerate() {
@@ -133,7 +139,8 @@ fn is_free(vars: &[Var], follower: &Follower) -> bool
 
 /// Whether a variable is free where it is the follower's own.
 fn is_free_var(follower: &Follower, v: usize, var: &Var) -> bool
-    ensures { IsTrue result ↔ (IsOwn (follower_of follower.now) v → (var.now.whole ≡ false) × (var.now.low ≡ Some (pos 0)) × (var.now.up ≡ None)) }
+    ensures { IsTrue result ↔ (IsOwn (follower_of follower.now) v
+        → (var.now.whole ≡ false) × (var.now.low ≡ Some (pos 0)) × (var.now.up ≡ None)) }
 {
     !is_own(follower, v) || !var.whole && var.low == Some(0) && var.up.is_none()
 }

@@ -37,7 +37,9 @@ fn var_counts(leaders: &[Leader]) -> [usize; 16]
 /// Whether the bases are players of one game.
 fn are_bases(leaders: &[Leader], counts: &[usize]) -> bool
     requires { counts.now ≡ map var_count (bases (leaders_of leaders.now)) }
-    ensures { IsTrue result ↔ ((i : ℕ) (player : PlayerOf) → IsPlayer (bases (leaders_of leaders.now)) i player → IsPlayerForm (bases (leaders_of leaders.now)) i player) }
+    ensures { IsTrue result ↔ ((i : ℕ) (player : PlayerOf)
+        → IsPlayer (bases (leaders_of leaders.now)) i player
+        → IsPlayerForm (bases (leaders_of leaders.now)) i player) }
 {
     let mut all = true;
     for (i, leader) in leaders.iter().enumerate() {
@@ -48,7 +50,8 @@ fn are_bases(leaders: &[Leader], counts: &[usize]) -> bool
 
 /// Whether each leader's followers keep the rules, and its variables' names.
 fn are_leaders(leaders: &[Leader]) -> bool
-    ensures { IsTrue result ↔ ((i : ℕ) (leader : LeaderOf) → IsLeader (leaders_of leaders.now) i leader → IsLeaderForm leader) }
+    ensures { IsTrue result ↔ ((i : ℕ) (leader : LeaderOf)
+        → IsLeader (leaders_of leaders.now) i leader → IsLeaderForm leader) }
 {
     let mut all = true;
     for leader in leaders {

@@ -12,9 +12,12 @@ ghost use Rattle.zr_source.specs.Sources.{LeaderOf, SourceOf, bases};
 /// Leaders without followers are players: their points, their equilibria and that there is none are
 /// those of the game of the bases.
 pub fn law_of_leaders_alone()
-    ensures points { (leader : LeaderOf) → leader.followers ≡ [] → (x : PointOf) → (IsLeaderFeasible leader x ↔ IsFeasible leader.base x) }
-    ensures profiles { (source : SourceOf) → HasNoFollowers source → (profile : Profile) → (IsSourceEquilibrium source profile ↔ IsEquilibrium (bases source) profile) }
-    ensures none { (source : SourceOf) → HasNoFollowers source → (kind : Kind) → (HasNoSourceEquilibrium source kind ↔ HasNoEquilibrium (bases source) kind) }
+    ensures points { (leader : LeaderOf) → leader.followers ≡ [] → (x : PointOf)
+        → (IsLeaderFeasible leader x ↔ IsFeasible leader.base x) }
+    ensures profiles { (source : SourceOf) → HasNoFollowers source → (profile : Profile)
+        → (IsSourceEquilibrium source profile ↔ IsEquilibrium (bases source) profile) }
+    ensures none { (source : SourceOf) → HasNoFollowers source → (kind : Kind)
+        → (HasNoSourceEquilibrium source kind ↔ HasNoEquilibrium (bases source) kind) }
 {}
 
 /// Where a leader's follower takes the greatest value, taking a smaller one isn't feasible.

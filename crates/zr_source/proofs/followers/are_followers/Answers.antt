@@ -5,12 +5,19 @@ use Rattle.zr_source.specs.Sources.{follower_of}
 use Rattle.zr_source.proofs.followers.are_followers.Goals as goal
 
 pub loop-follower-init : goal.loop-follower-init
-loop-follower-init c = none_checked (λ i f. IsFollowerForm c.args.columns (follower_of f)) c.args.followers.now
+loop-follower-init c = none_checked (λ i f. IsFollowerForm c.args.columns (follower_of f))
+    c.args.followers.now
 
 pub loop-follower-preserved : goal.loop-follower-preserved
 loop-follower-preserved c =
-    more_checked (λ i f. IsFollowerForm c.args.columns (follower_of f)) c.args.followers.now c.loop-follower.follower-index c.follower-item.result c.loop-follower-test.true c.follower-item.is c.loop-follower.all c.loop-follower.invariant c.is_follower-all.result c.is_follower-all.ensures
+    more_checked (λ i f. IsFollowerForm c.args.columns (follower_of f)) c.args.followers.now
+    c.loop-follower.follower-index c.follower-item.result c.loop-follower-test.true
+    c.follower-item.is c.loop-follower.all c.loop-follower.invariant c.is_follower-all.result
+    c.is_follower-all.ensures
 
 pub returns : goal.returns
 returns c =
-    all_mapped follower_of (IsFollowerForm c.args.columns) c.args.followers.now c.loop-follower.all (all_checked (λ i f. IsFollowerForm c.args.columns (follower_of f)) c.args.followers.now c.loop-follower.follower-index c.loop-follower.all (omega arith) (omega arith) c.loop-follower.invariant)
+    all_mapped follower_of (IsFollowerForm c.args.columns) c.args.followers.now c.loop-follower.all
+    (all_checked (λ i f. IsFollowerForm c.args.columns (follower_of f)) c.args.followers.now
+    c.loop-follower.follower-index c.loop-follower.all (omega arith) (omega arith)
+    c.loop-follower.invariant)

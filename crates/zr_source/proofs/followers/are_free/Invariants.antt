@@ -7,4 +7,5 @@ use Rattle.zr_source.proofs.followers.are_free.Given as goal
 
 abbrev pub invariant-loop-follower : goal.invariant-loop-follower
 invariant-loop-follower l =
-    (base : PlayerOf) → base.vars ≡ map var_of l.vars → Checked l.follower-index (λ i f. AreFree base (follower_of f)) l.followers l.all
+    (base : PlayerOf) → base.vars ≡ map var_of l.vars
+    → Checked l.follower-index (λ i f. AreFree base (follower_of f)) l.followers l.all

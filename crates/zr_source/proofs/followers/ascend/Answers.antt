@@ -11,10 +11,12 @@ pub loop-k-preserved : goal.loop-k-preserved
 loop-k-preserved c =
     let d : ℕ × ℕ × ℤ = (0, 0, pos 0) in
     let within = c.loop-k-test.true in
-    more_order follower_cross_order c.args.cross.now c.loop-k.k d c.loop-k.auto.k within c.loop-k.all
+    more_order follower_cross_order c.args.cross.now c.loop-k.k d c.loop-k.auto.k within
+    c.loop-k.all
     c.loop-k.invariant c.is_before-all.result c.is_before-all.ensures
 
 pub returns : goal.returns
 returns c =
     let end = c.loop-k-test.false in
-    in_order follower_cross_order cross_follows c.args.cross.now c.loop-k.k c.loop-k.all end c.loop-k.invariant
+    in_order follower_cross_order cross_follows c.args.cross.now c.loop-k.k c.loop-k.all end
+    c.loop-k.invariant

@@ -5,4 +5,5 @@ pub loop-k-init : goal.loop-k-init
 loop-k-init c = none_standing c.args.columns c.args.followers.now
 
 pub returns : goal.returns
-returns c = all_standing c.args.columns c.args.followers.now c.loop-k.k c.loop-k.all c.loop-k-test.false c.loop-k.invariant
+returns c = all_standing c.args.columns c.args.followers.now c.loop-k.k c.loop-k.all
+    c.loop-k-test.false c.loop-k.invariant

@@ -5,4 +5,5 @@ use Rattle.zr_source.specs.Sources.{bases, leaders_of}
 use Rattle.zr_source.proofs.form.are_bases.Given as goal
 
 abbrev pub invariant-loop-i : goal.invariant-loop-i
-invariant-loop-i l = Checked l.i (λ i leader. IsPlayerForm (bases (leaders_of l.leaders)) i (base_of leader)) l.leaders l.all
+invariant-loop-i l = Checked l.i (λ i leader. IsPlayerForm (bases (leaders_of l.leaders)) i
+    (base_of leader)) l.leaders l.all

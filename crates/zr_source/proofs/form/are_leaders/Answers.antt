@@ -9,8 +9,13 @@ loop-leader-init c = none_checked (λ i leader. IsLeaderForm (leader_of leader))
 
 pub loop-leader-preserved : goal.loop-leader-preserved
 loop-leader-preserved c =
-    more_checked (λ i leader. IsLeaderForm (leader_of leader)) c.args.leaders.now c.loop-leader.leader-index c.leader-item.result c.loop-leader-test.true c.leader-item.is c.loop-leader.all c.loop-leader.invariant c.is_leader-all.result c.is_leader-all.ensures
+    more_checked (λ i leader. IsLeaderForm (leader_of leader)) c.args.leaders.now
+    c.loop-leader.leader-index c.leader-item.result c.loop-leader-test.true c.leader-item.is
+    c.loop-leader.all c.loop-leader.invariant c.is_leader-all.result c.is_leader-all.ensures
 
 pub returns : goal.returns
 returns c =
-    each_mapped leader_of (λ i leader. IsLeaderForm leader) c.args.leaders.now c.loop-leader.all (all_checked (λ i leader. IsLeaderForm (leader_of leader)) c.args.leaders.now c.loop-leader.leader-index c.loop-leader.all (omega arith) (omega arith) c.loop-leader.invariant)
+    each_mapped leader_of (λ i leader. IsLeaderForm leader) c.args.leaders.now c.loop-leader.all
+    (all_checked (λ i leader. IsLeaderForm (leader_of leader)) c.args.leaders.now
+    c.loop-leader.leader-index c.loop-leader.all (omega arith) (omega arith)
+    c.loop-leader.invariant)

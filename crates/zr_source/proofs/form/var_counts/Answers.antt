@@ -13,10 +13,12 @@ loop-i-preserved c =
     let count = c.len.ensures ∙ vars_len x.base in
     record {
       len = length-set c.loop-i.counts c.loop-i.i c.len.result ∙ c.loop-i.invariant.len;
-      counted = more_counted base_of c.args.leaders.now c.loop-i.i c.loop-i.counts x c.len.result here room c.index-leaders-i.is count c.loop-i.invariant.counted;
+      counted = more_counted base_of c.args.leaders.now c.loop-i.i c.loop-i.counts x c.len.result
+          here room c.index-leaders-i.is count c.loop-i.invariant.counted;
     }
 
 pub returns : goal.returns
 returns c =
-    let all = all_counted base_of c.args.leaders.now c.loop-i.i c.loop-i.counts (omega arith) (omega arith) c.loop-i.invariant.counted in
+    let all = all_counted base_of c.args.leaders.now c.loop-i.i c.loop-i.counts (omega arith)
+    (omega arith) c.loop-i.invariant.counted in
     all ∙ ap (map var_count) (sym (bases_are c.args.leaders.now))

@@ -8,5 +8,7 @@ pub returns-clause-profiles : goal.returns-clause-profiles
 returns-clause-profiles c = equilibria_alone
 
 pub returns-clause-none : goal.returns-clause-none
-returns-clause-none c source alone kind =
-    (λ none profile is e. none profile is ((equilibria_alone source alone profile).1 e), λ none profile is e. none profile is ((equilibria_alone source alone profile).0 e))
+returns-clause-none c source alone kind = (
+  λ none profile is e. none profile is ((equilibria_alone source alone profile).1 e),
+  λ none profile is e. none profile is ((equilibria_alone source alone profile).0 e),
+)

@@ -11,10 +11,14 @@ loop-v-preserved c =
     let x = c.index-vars-v.result in
     let rule = rw c.deref.ensures at c.is_name.ensures in
     let new = rw c.deref-in-loop-v.ensures at c.is_new_var.ensures in
-    let told = new_told var_text c.args.vars.now c.loop-v.v x c.is_name.result c.is_new_var.result rule new in
-    more_checked (IsNew var_text c.args.vars.now) c.args.vars.now c.loop-v.v x c.loop-v-test.true c.index-vars-v.is c.loop-v.all c.loop-v.invariant (c.is_name.result && c.is_new_var.result) told
+    let told = new_told var_text c.args.vars.now c.loop-v.v x c.is_name.result c.is_new_var.result
+    rule new in
+    more_checked (IsNew var_text c.args.vars.now) c.args.vars.now c.loop-v.v x c.loop-v-test.true
+    c.index-vars-v.is c.loop-v.all c.loop-v.invariant (c.is_name.result && c.is_new_var.result)
+    told
 
 pub returns : goal.returns
 returns c =
-    let all = all_checked (IsNew var_text c.args.vars.now) c.args.vars.now c.loop-v.v c.loop-v.all (omega arith) (omega arith) c.loop-v.invariant in
+    let all = all_checked (IsNew var_text c.args.vars.now) c.args.vars.now c.loop-v.v c.loop-v.all
+    (omega arith) (omega arith) c.loop-v.invariant in
     var_texts c.args.vars.now c.loop-v.all all
