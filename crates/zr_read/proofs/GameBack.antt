@@ -135,7 +135,7 @@ module _ (players : List Name) (variables : List (List Name)) where
   count_players i [] = refl
   count_players i (p ∷ ps) = rw (count_players (i + 1) ps) (omega arith)
 
-  -- no player of it has pairs or followers
+  -- no player of it has parts that are not read yet
   built_player : (i : ℕ) (p : PlayerOf) → is_unbuilt_player (player_data players variables i p) ≡ false
   unfolding serde_json_on_literals
   built_player i p = refl
@@ -246,7 +246,7 @@ module _ (game : GameOf) (form : IsGame game) (named : IsNamed game) (built : Al
   pub game_back : game_in (game_data game) ≡ Ok game
   game_back = bind_to (needed (codes "format") format_in (game_data game)) tt (λ _. needed (codes "players") players_in (game_data game)) format_of_game ∙ players_of_game
 
--- and no player of it has pairs or followers
+-- and no player of it has parts that are not read yet
 pub game_is_built : (game : GameOf) → is_unbuilt (game_data game) ≡ false
 unfolding serde_json_on_literals
 game_is_built game = built_players (names_of game) (variables_of game) 0 game
