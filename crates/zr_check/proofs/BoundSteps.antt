@@ -3,13 +3,14 @@ use Rattle.std.proofs.Common.{◌≡◌, ℕ, ◌+◌, ◌<◌, arith, refl, sym
 use Rattle.zr_base.specs.declared.step.Wide.{Wide}
 use Rattle.zr_base.specs.Fractions.{Fraction}
 use Rattle.zr_game.specs.declared.leaf.Side.TheVariants.{VarZero, RowZero}
-use Rattle.zr_game.specs.Leaves.{Bound, LeafOf, above, below, decided}
+use Rattle.zr_game.specs.Leaves.{Bound, LeafOf, above, below, bound_with, decided}
 use Rattle.zr_game.specs.Players.{GameOf, PlayerOf}
 use Rattle.zr_tree.specs.declared.fault.Fault.{Fault}
 use Rattle.zr_tree.specs.declared.fault.Fault.TheVariants as nodes
-use Rattle.zr_tree.specs.Steps.{IsRefusedAt}
+use Rattle.zr_tree.specs.Nodes.{NodeOf, KnownNode, LooseNode, ProofNode}
+use Rattle.zr_tree.specs.Right.{EndRule, ProvesRow}
+use Rattle.zr_tree.specs.Steps.{EndRefused, IsRefusedAt, IsRefusedBy, IsWideForRow}
 use Rattle.zr_tree.specs.Trees.{TreeOf, Split, Choose, Proof, Known, Loose, preorder, size}
-use Rattle.zr_mix.specs.Checks.{claim_row}
 use Rattle.zr_cert.specs.declared.fault.CertFault.{CertFault}
 use Rattle.zr_cert.specs.declared.fault.CertFault.TheVariants.{Bad, Wide as TooWide}
 use Rattle.zr_cert.specs.Certs.{BoundOf, MixtureOf}
@@ -35,16 +36,26 @@ size_listed Loose = refl
 numbered : (f g : Fault) (k : ℕ) → f ≡ g → node_number g ≡ k → node_number f ≡ k
 numbered f g k e n = ap node_number e ∙ n
 
--- the node at fault is one of the tree's
+-- the fault of an end is its number
+end_number : (right wide : EndRule) (k : ℕ) (leaf : LeafOf) (node : NodeOf) (fault : Fault) → EndRefused right wide k leaf node fault → node_number fault ≡ k
+end_number right wide k leaf node fault r =
+    ⊎_elim (λ s. numbered fault (nodes.Wide k) k s.1 refl) (λ s. numbered fault (nodes.Bad k) k s.2 refl) r
+
+module _ (right wide : EndRule) (player : PlayerOf) where
+  -- the node at fault is one of the tree's
+  pub fault_below : (k : ℕ) (leaf : LeafOf) (t : TreeOf) (fault : Fault) → IsRefusedBy right wide player k leaf t fault → node_number fault < k + size t
+  fault_below k leaf (Split v at first second) fault r =
+      ⊎_elim (λ s. let n = numbered fault (nodes.Bad k) k s.1 refl in omega (arith, n)) (λ s. ⊎_elim (λ u. let n = fault_below (k + 1) (below leaf v at) first fault u.1 in omega (arith, n)) (λ u. let n = fault_below (k + 1 + size first) (above leaf v at) second fault u.2 in omega (arith, n)) s) r
+  fault_below k leaf (Choose p first second) fault r =
+      ⊎_elim (λ s. let n = numbered fault (nodes.Bad k) k s.1 refl in omega (arith, n)) (λ s. ⊎_elim (λ u. let n = fault_below (k + 1) (decided leaf p VarZero) first fault u.1 in omega (arith, n)) (λ u. let n = fault_below (k + 1 + size first) (decided leaf p RowZero) second fault u.2 in omega (arith, n)) s) r
+  fault_below k leaf (Proof scale mult) fault r =
+      let n = end_number right wide k leaf (ProofNode scale mult) fault r in omega (arith, n)
+  fault_below k leaf (Known x) fault r = let n = end_number right wide k leaf (KnownNode x) fault r in omega (arith, n)
+  fault_below k leaf Loose fault r = let n = end_number right wide k leaf LooseNode fault r in omega (arith, n)
+
 pub fault_within : (player : PlayerOf) (bound : Bound) (k : ℕ) (leaf : LeafOf) (t : TreeOf) (fault : Fault) → IsRefusedAt player bound k leaf t fault → node_number fault < k + size t
-fault_within player bound k leaf (Split v at first second) fault r =
-    ⊎_elim (λ s. let n = numbered fault (nodes.Bad k) k s.1 refl in omega (arith, n)) (λ s. ⊎_elim (λ u. let n = fault_within player bound (k + 1) (below leaf v at) first fault u.1 in omega (arith, n)) (λ u. let n = fault_within player bound (k + 1 + size first) (above leaf v at) second fault u.2 in omega (arith, n)) s) r
-fault_within player bound k leaf (Choose p first second) fault r =
-    ⊎_elim (λ s. let n = numbered fault (nodes.Bad k) k s.1 refl in omega (arith, n)) (λ s. ⊎_elim (λ u. let n = fault_within player bound (k + 1) (decided leaf p VarZero) first fault u.1 in omega (arith, n)) (λ u. let n = fault_within player bound (k + 1 + size first) (decided leaf p RowZero) second fault u.2 in omega (arith, n)) s) r
-fault_within player bound k leaf (Proof scale mult) fault r =
-    ⊎_elim (λ s. let n = numbered fault (nodes.Wide k) k s.1 refl in omega (arith, n)) (λ s. let n = numbered fault (nodes.Bad k) k s.2 refl in omega (arith, n)) r
-fault_within player bound k leaf (Known x) fault r = let n = numbered fault (nodes.Bad k) k r refl in omega (arith, n)
-fault_within player bound k leaf Loose fault r = let n = numbered fault (nodes.Bad k) k r refl in omega (arith, n)
+fault_within player bound k leaf t fault r =
+    fault_below (ProvesRow player bound) (IsWideForRow player bound) player k leaf t fault r
 
 -- what the steps of a cost's line gave
 pub gave_wide : (made : Result (Fraction × (List ℤ × ℤ)) Wide) (w : Wide) (left : List ℤ) → GivesCost made (Err w) left → IsErr made
@@ -77,8 +88,8 @@ module _ (game : GameOf) (mixtures : List MixtureOf) (means : List Fraction) (ar
       printed : IsCostMade game mixtures i player bound.cost left right
       printed = subst (λ (f : Fraction). IsCostMade game mixtures i player f left right) same made
 
-      pub bound_refused : (fault : CertFault) → TreeRefused player (claim_row left right) bound.tree (line + 1) fault → BoundRefused game mixtures line i player bound fault
+      pub bound_refused : (fault : CertFault) → TreeRefused player (bound_with left right) bound.tree (line + 1) fault → BoundRefused game mixtures line i player bound fault
       bound_refused fault r = inr (inr (left, right, printed, r))
 
-      pub bound_passes : TreePasses player (claim_row left right) bound.tree → BoundPasses game mixtures i player bound
+      pub bound_passes : TreePasses player (bound_with left right) bound.tree → BoundPasses game mixtures i player bound
       bound_passes p = (left, right, printed, p)

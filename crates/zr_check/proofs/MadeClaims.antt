@@ -1,5 +1,5 @@
 -- Claims that were made in whole, and that a profile has one claim.
-use Rattle.std.proofs.Common.{◌≡◌, ℕ, ◌+◌, ◌<◌, arith, sym, ap, subst, ◌∙◌, ℤ, pos, neg_ℤ, ◌*ℤ◌, ◌<ℤ◌, unsigned_abs, int_div, Result, Ok, List, [], ◌∷◌, ◌++◌, length, get_or, All}
+use Rattle.std.proofs.Common.{◌≡◌, ℕ, zero, suc, ◌+◌, ◌<◌, arith, sym, ap, subst, ◌∙◌, ℤ, pos, neg_ℤ, ◌*ℤ◌, ◌<ℤ◌, unsigned_abs, int_div, Result, Ok, List, [], ◌∷◌, ◌++◌, length, get_or, All}
 use Rattle.std.proofs.Math.Nat.{dvd-mul_left, pos_of_dvd_of_pos}
 use Rattle.std.proofs.lemmas.Int.{ints, unsigned_abs-mul}
 use Rattle.std.proofs.lemmas.Nat.Gcd.{dvd_antisymm}
@@ -14,14 +14,14 @@ use Rattle.zr_base.proofs.CrossLaws.{then_ok}
 use Rattle.zr_base.proofs.Divisors.{cancel, nonneg_abs, quot_exact}
 use Rattle.zr_base.proofs.Gcds.{gcd_of_is}
 use Rattle.zr_base.proofs.Lowest.{divides_other}
-use Rattle.zr_base.proofs.Sames.{same_record, same_trans}
+use Rattle.zr_base.proofs.Made.{made_items}
+use Rattle.zr_base.proofs.SameLaws.{same_sym, same_through}
+use Rattle.zr_base.proofs.Sames.{same_record}
 use Rattle.zr_base.proofs.Worth.{Each}
 use Rattle.zr_game.specs.Feasible.{IsMultiple}
-use Rattle.zr_game.specs.Forms.{IsGame, IsPlayer}
 use Rattle.zr_game.specs.Means.{along_slope, mean, slope}
-use Rattle.zr_game.specs.Players.{GameOf, PlayerOf}
-use Rattle.zr_game.specs.Profiles.{IsProfile, Profile, strategy_of}
-use Rattle.zr_game.proofs.MeanLaws.{along_den, mean_den, slope_den}
+use Rattle.zr_game.specs.Players.{PlayerOf}
+use Rattle.zr_game.specs.Profiles.{Profile, strategy_of}
 use Rattle.zr_mix.specs.Checks.{IsClaimOf}
 use Rattle.zr_mix.specs.Claims.{IsClaim, IsLeastMultiple, IsMultipleOf}
 use Rattle.zr_mix.specs.Multiples.{IsLcm, IsLcmOf, IsNegatedOver}
@@ -29,7 +29,6 @@ use Rattle.zr_mix.specs.Steps.{all_negated, claim_steps, multiple_steps, negated
 use Rattle.zr_mix.specs.Values.{AreInLowestTerms, AreReduced, IsInLowestTerms, IsReduced, item_of}
 use Rattle.zr_mix.proofs.Multiples.{least_multiple, multiple_steps-append, multiple_trans, step_lcm, step_only}
 use Rattle.zr_mix.proofs.Negated.{negated_exact, negated_made}
-use Rattle.zr_check.proofs.MadeLists.{made_items}
 
 abbrev pub HasDen : Fraction → Type 0
 HasDen f = (pos 0) <ℤ f.den
@@ -81,6 +80,11 @@ pub ok_pair : {A B : Type 0} (a c : A) (b d : B) → ◌≡◌ {A = Result (A ×
 ok_pair {A} {B} a c b d e =
     let p : ◌≡◌ {A = A × B} (a, b) (c, d) = cc in (ap (λ (x : A × B). x.0) p, ap (λ (x : A × B). x.1) p)
 
+den_at : (fs : List Fraction) (v : ℕ) → Each HasDen fs → v < length fs → HasDen (item_of fs v)
+den_at [] v all h = absurd (omega arith)
+den_at (f ∷ fs) zero all h = all.0
+den_at (f ∷ fs) (suc v) all h = den_at fs v all.1 (omega arith)
+
 -- a claim that was made in whole
 pub claim_made : (slopes : List Fraction) (value : Fraction) (left : List ℤ) (right : ℤ) → Each HasDen slopes → HasDen value → claim_steps slopes value ≡ Ok (left, right) → (m : ℤ) × IsClaim slopes value m left right
 claim_made slopes value left right dens den e =
@@ -91,14 +95,14 @@ claim_made slopes value left right dens den e =
     let is = ok_pair t.0 left u.0 right u.2 in
     let common = common_made slopes value m dens den s.1 in
     let all = made_items (λ v. negated_over m (item_of slopes v)) 0 (length slopes) t.0 (sym (negated_made m (whole (pos 0)) slopes slopes 0 (λ v h. ap (λ n. item_of slopes n) (let z : 0 + v ≡ v = omega arith in z))) ∙ t.1) in
-    let lefts : (v : ℕ) → v < length slopes → IsNegatedOver m (item_of slopes v) (get_or t.0 v (pos 0)) = λ v h. negated_exact m (item_of slopes v) (common.slopes v (whole (pos 0)) h) (Ok (get_or t.0 v (pos 0))) (sym (all.1 v (pos 0) h) ∙ ap (λ n. negated_over m (item_of slopes n)) (let z : 0 + v ≡ v = omega arith in z)) in
-    (m, subst (IsClaim slopes value m left) is.1 (subst (λ (xs : List ℤ). IsClaim slopes value m xs u.0) is.0 (record { common = common; len = all.0; lefts = lefts; rights = negated_exact m value common.of_value (Ok u.0) (sym u.1) })))
+    let lefts : (v : ℕ) → v < length slopes → IsNegatedOver m (item_of slopes v) (get_or t.0 v (pos 0)) = λ v h. negated_exact m (item_of slopes v) (den_at slopes v dens h) (common.slopes v (whole (pos 0)) h) (Ok (get_or t.0 v (pos 0))) (sym (all.1 v (pos 0) h) ∙ ap (λ n. negated_over m (item_of slopes n)) (let z : 0 + v ≡ v = omega arith in z)) in
+    (m, subst (IsClaim slopes value m left) is.1 (subst (λ (xs : List ℤ). IsClaim slopes value m xs u.0) is.0 (record { common = common; len = all.0; lefts = lefts; rights = negated_exact m value den common.of_value (Ok u.0) (sym u.1) })))
 
 -- the number that is m times a fraction, negated, is one
 same_over : (m x y : ℤ) (f : Fraction) → HasDen f → IsNegatedOver m f x → IsNegatedOver m f y → x ≡ y
 same_over m x y f den p q =
     let one : pos 1 *ℤ f.den ≡ f.den = omega (arith, ints) in
-    let e = cancel (neg_ℤ x) (neg_ℤ y) (pos 1 *ℤ f.den) (rw one den) (sym p ∙ q) in
+    let e = cancel (neg_ℤ x) (neg_ℤ y) (pos 1 *ℤ f.den) (rw one den) (sym p.cross ∙ q.cross) in
     omega (arith, ints, e)
 
 -- two claims of one slope and one value are one
@@ -113,7 +117,7 @@ same_made slopes value m n left left' right right' dens den p q =
 
 -- what is reduced is in lowest terms
 pub in_lowest : (f x : Fraction) → IsReduced f x → IsInLowestTerms f x
-in_lowest f x r = record { positive = r.lowest.ratio.positive; coprime = r.lowest.coprime; same = r.same }
+in_lowest f x r = record { coprime = r.lowest.coprime; same = r.same }
 
 pub all_in_lowest : (list : List Fraction) (n : ℕ) (f : ℕ → Fraction) → AreReduced list n f → AreInLowestTerms list n f
 all_in_lowest list n f r = record { len = r.len; each = λ v h. in_lowest (item_of list v) (f v) (r.each v h) }
@@ -125,23 +129,25 @@ divides f g positive coprime e =
     divides_other (unsigned_abs f.num) (unsigned_abs f.den) (unsigned_abs g.den) least coprime (subst (λ n. unsigned_abs f.den ∣ n) s (dvd-mul_left (unsigned_abs f.den) (unsigned_abs g.num)))
 
 -- fractions in lowest terms of one value are one
-pub same_reduced : (f g x : Fraction) → HasDen x → IsInLowestTerms f x → IsInLowestTerms g x → f ≡ g
-same_reduced f g x den p q =
-    let e = same_trans f (whole (pos 0)) x g den p.same (sym q.same) in
-    let a = divides f g q.positive p.coprime e in
-    let b = divides g f p.positive q.coprime (sym e) in
-    let one : f.den ≡ g.den = nonneg_abs f.den p.positive ∙ ap pos (dvd_antisymm a b) ∙ sym (nonneg_abs g.den q.positive) in
-    let num : f.num ≡ g.num = cancel f.num g.num g.den q.positive (e ∙ ap (λ z. g.num *ℤ z) one) in
+pub same_reduced : (f g x : Fraction) → IsInLowestTerms f x → IsInLowestTerms g x → f ≡ g
+same_reduced f g x p q =
+    let above = p.same.left in
+    let below = q.same.left in
+    let e = (same_through f x g p.same (same_sym g x q.same)).cross in
+    let a = divides f g below p.coprime e in
+    let b = divides g f above q.coprime (sym e) in
+    let one : f.den ≡ g.den = nonneg_abs f.den above ∙ ap pos (dvd_antisymm a b) ∙ sym (nonneg_abs g.den below) in
+    let num : f.num ≡ g.num = cancel f.num g.num g.den below (e ∙ ap (λ z. g.num *ℤ z) one) in
     same_record f g num one
 
 -- a profile has one claim of each player
-pub one_claim : (game : GameOf) → IsGame game → (profile : Profile) → IsProfile game profile → (i : ℕ) (player : PlayerOf) → IsPlayer game i player → (left left' : List ℤ) (right right' : ℤ) → IsClaimOf player i profile left right → IsClaimOf player i profile left' right' → (left ≡ left') × (right ≡ right')
-one_claim game form profile valid i player is left left' right right' p q =
-    let g = form.players i player is in
-    let slope_positive = slope_den game profile valid i player is g in
-    let own_positive = along_den game profile valid i player is g (mean (strategy_of profile i)) (mean_den game profile valid i player is g) in
+pub one_claim : (player : PlayerOf) (i : ℕ) (profile : Profile) (left left' : List ℤ) (right right' : ℤ) → IsClaimOf player i profile left right → IsClaimOf player i profile left' right' → (left ≡ left') × (right ≡ right')
+one_claim player i profile left left' right right' p q =
     let l = p.are_slopes.len in
-    let slopes = ext_get_or (whole (pos 0)) q.slopes p.slopes (q.are_slopes.len ∙ sym p.are_slopes.len) (λ v h. let m = q.are_slopes.len in let b : v < length player.vars = omega (arith, h, m) in same_reduced (item_of q.slopes v) (item_of p.slopes v) (slope player profile v) (slope_positive v) (q.are_slopes.each v b) (p.are_slopes.each v b)) in
-    let value = same_reduced q.value p.value (along_slope player profile (mean (strategy_of profile i))) own_positive q.is_value p.is_value in
+    let m = q.are_slopes.len in
+    let one = λ (v : ℕ) (h : v < length q.slopes). let b : v < length player.vars = omega (arith, h, m) in same_reduced (item_of q.slopes v) (item_of p.slopes v) (slope player profile v) (q.are_slopes.each v b) (p.are_slopes.each v b) in
+    let slopes = ext_get_or (whole (pos 0)) q.slopes p.slopes (m ∙ sym l) one in
+    let value = same_reduced q.value p.value (along_slope player profile (mean (strategy_of profile i))) q.is_value p.is_value in
     let other = subst (λ (f : Fraction). IsClaim p.slopes f q.by left' right') value (subst (λ (fs : List Fraction). IsClaim fs q.value q.by left' right') slopes q.claim) in
-    same_made p.slopes p.value p.by q.by left left' right right' (λ v h. (p.are_slopes.each v (omega (arith, h, l))).positive) p.is_value.positive p.claim other
+    let dens = λ (v : ℕ) (h : v < length p.slopes). (p.are_slopes.each v (omega (arith, h, l))).same.left in
+    same_made p.slopes p.value p.by q.by left left' right right' dens p.is_value.same.left p.claim other

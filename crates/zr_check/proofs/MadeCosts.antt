@@ -3,19 +3,22 @@ use Rattle.std.proofs.Common.{◌≡◌, ℕ, sym, ap, subst, ◌∙◌, ℤ, Re
 use Rattle.zr_base.specs.declared.step.Wide.{Wide}
 use Rattle.zr_base.specs.Steps.{◌>>=◌}
 use Rattle.zr_base.specs.Fractions.{Fraction}
+use Rattle.zr_base.specs.Lowest.{add_of}
+use Rattle.zr_base.specs.Made.{made_from}
 use Rattle.zr_base.proofs.CrossLaws.{then_ok}
 use Rattle.zr_game.specs.Forms.{IsGame, IsPlayer}
 use Rattle.zr_game.specs.Means.{along_slope, mean, slope}
 use Rattle.zr_game.specs.Players.{GameOf, PlayerOf}
-use Rattle.zr_game.specs.Profiles.{strategy_of, total}
+use Rattle.zr_game.specs.Profiles.{IsProfile, expected_cost, strategy_of, total}
 use Rattle.zr_mix.specs.Checks.{IsClaimOf}
-use Rattle.zr_mix.specs.Steps.{claim_steps, made_from, slope_steps, value_steps}
+use Rattle.zr_mix.specs.Steps.{claim_steps, rest_steps, slope_steps, value_steps}
 use Rattle.zr_mix.specs.Values.{IsReduced}
+use Rattle.zr_mix.proofs.Checking.{made_cost}
 use Rattle.zr_cert.specs.Certs.{MixtureOf, profile_with}
 use Rattle.zr_cert.specs.Forms.{IsMixtureForm}
 use Rattle.zr_check.specs.Bounds.{IsCostMade, IsWideCost, cost_steps, own_means}
-use Rattle.zr_check.proofs.MadeSums.{dens_if, value_exact}
-use Rattle.zr_check.proofs.MadeLists.{own_are, slope_reduced}
+use Rattle.zr_check.proofs.MadeSums.{dens_if, rest_exact, value_exact}
+use Rattle.zr_check.proofs.MadeLists.{are_means, own_are, slope_reduced}
 use Rattle.zr_check.proofs.MadeClaims.{all_in_lowest, claim_made, in_lowest, ok_pair}
 
 ok_same : (a b : List Fraction) → ◌≡◌ {A = Result (List Fraction) Wide} (Ok a) (Ok b) → a ≡ b
@@ -37,38 +40,65 @@ made_or_wide game mixtures i player value left right p w =
     absurd cc
 
 -- the slope, and what was made of it
-record CostParts (slopes_made : Result (List Fraction) Wide) (own : List Fraction) (value : Fraction) (left : List ℤ) (right : ℤ) : Type 0 where
+record CostParts (slopes_made : Result (List Fraction) Wide) (rest_made : Result Fraction Wide) (own : List Fraction) (cost : Fraction) (left : List ℤ) (right : ℤ) : Type 0 where
   pub slopes : List Fraction
   pub are_slopes : slopes_made ≡ Ok slopes
+  pub value : Fraction
   pub is_value : value_steps slopes own ≡ Ok value
+  pub others : Fraction
+  pub is_rest : rest_made ≡ Ok others
+  pub is_cost : add_of value others ≡ Ok cost
   pub claim : claim_steps slopes value ≡ Ok (left, right)
 
-abbrev with_claim : List Fraction → Fraction → Result (Fraction × (List ℤ × ℤ)) Wide
-with_claim slopes value = claim_steps slopes value >>= λ claim. Ok (value, claim)
+abbrev with_claim : List Fraction → Fraction → Fraction → Result (Fraction × (List ℤ × ℤ)) Wide
+with_claim slopes value cost = claim_steps slopes value >>= λ claim. Ok (cost, claim)
 
-cost_parts : (slopes_made : Result (List Fraction) Wide) (own : List Fraction) (value : Fraction) (left : List ℤ) (right : ℤ) → (slopes_made >>= λ slopes. value_steps slopes own >>= with_claim slopes) ≡ Ok (value, (left, right)) → CostParts slopes_made own value left right
-cost_parts slopes_made own value left right e =
-    let s = then_ok slopes_made (λ slopes. value_steps slopes own >>= with_claim slopes) (value, (left, right)) e in
-    let t = then_ok (value_steps s.0 own) (with_claim s.0) (value, (left, right)) s.2 in
-    let u = then_ok (claim_steps s.0 t.0) (λ claim. Ok (t.0, claim)) (value, (left, right)) t.2 in
-    let parts = ok_pair t.0 value u.0 (left, right) u.2 in
-    let claim = subst (λ (c : List ℤ × ℤ). claim_steps s.0 t.0 ≡ Ok c) parts.1 u.1 in
+abbrev with_cost : Result Fraction Wide → List Fraction → Fraction → Result (Fraction × (List ℤ × ℤ)) Wide
+with_cost rest_made slopes value = rest_made >>= λ others. add_of value others >>= with_claim slopes value
+
+cost_parts : (slopes_made : Result (List Fraction) Wide) (rest_made : Result Fraction Wide) (own : List Fraction) (cost : Fraction) (left : List ℤ) (right : ℤ) → (slopes_made >>= λ slopes. value_steps slopes own >>= with_cost rest_made slopes) ≡ Ok (cost, (left, right)) → CostParts slopes_made rest_made own cost left right
+cost_parts slopes_made rest_made own cost left right e =
+    let made : Fraction × (List ℤ × ℤ) = (cost, (left, right)) in
+    let s = then_ok slopes_made (λ slopes. value_steps slopes own >>= with_cost rest_made slopes) made e in
+    let t = then_ok (value_steps s.0 own) (with_cost rest_made s.0) made s.2 in
+    let r = then_ok rest_made (λ others. add_of t.0 others >>= with_claim s.0 t.0) made t.2 in
+    let a = then_ok (add_of t.0 r.0) (with_claim s.0 t.0) made r.2 in
+    let u = then_ok (claim_steps s.0 t.0) (λ claim. Ok (a.0, claim)) made a.2 in
+    let parts = ok_pair a.0 cost u.0 (left, right) u.2 in
     record {
       slopes = s.0;
       are_slopes = s.1;
-      is_value = subst (λ (v : Fraction). value_steps s.0 own ≡ Ok v) parts.0 t.1;
-      claim = subst (λ (v : Fraction). claim_steps s.0 v ≡ Ok (left, right)) parts.0 claim;
+      value = t.0;
+      is_value = t.1;
+      others = r.0;
+      is_rest = r.1;
+      is_cost = subst (λ (f : Fraction). add_of t.0 r.0 ≡ Ok f) parts.0 a.1;
+      claim = subst (λ (c : List ℤ × ℤ). claim_steps s.0 t.0 ≡ Ok c) parts.1 u.1;
     }
 
-module _ (game : GameOf) (form : IsGame game) (mixtures : List MixtureOf) (len : length mixtures ≡ length game) (forms : All IsMixtureForm mixtures) (totals : All (λ m. m.total ≡ total m.parts) mixtures) (i : ℕ) (player : PlayerOf) (is : IsPlayer game i player) where
-  -- what was made is the claim, and the value along the slope
-  pub claim_of_cost : (value : Fraction) (left : List ℤ) (right : ℤ) → IsCostMade game mixtures i player value left right → IsClaimOf player i (profile_with mixtures) left right × IsReduced value (along_slope player (profile_with mixtures) (mean (strategy_of (profile_with mixtures) i)))
-  claim_of_cost value left right p =
+module _ (game : GameOf) (form : IsGame game) (mixtures : List MixtureOf) (len : length mixtures ≡ length game) (forms : All IsMixtureForm mixtures) (totals : All (λ m. m.total ≡ total m.parts) mixtures) (valid : IsProfile game (profile_with mixtures)) (i : ℕ) (player : PlayerOf) (is : IsPlayer game i player) where
+  -- what was made is the claim, and the expected cost
+  pub claim_of_cost : (cost : Fraction) (left : List ℤ) (right : ℤ) → IsCostMade game mixtures i player cost left right → IsClaimOf player i (profile_with mixtures) left right × IsReduced cost (expected_cost player i (profile_with mixtures))
+  claim_of_cost cost left right p =
       let profile = profile_with mixtures in
       let n = length player.vars in
       let own = own_means game player i p.means in
-      let parts = cost_parts (made_from (slope_steps game player p.means) 0 n) own value left right p.made in
+      let slopes_made = made_from (slope_steps game player p.means) 0 n in
+      let parts = cost_parts slopes_made (rest_steps game player p.means) own cost left right p.made in
       let slopes = slope_reduced game mixtures len forms totals p.means p.are_means form i player is parts.slopes parts.are_slopes in
-      let along = value_exact n parts.slopes own (slope player profile) (mean (strategy_of profile i)) slopes (own_are game mixtures len forms totals p.means p.are_means i player is) value parts.is_value in
-      let claim = claim_made parts.slopes value left right (dens_if n parts.slopes (slope player profile) slopes) along.lowest.ratio.positive parts.claim in
-      (record { slopes = parts.slopes; value = value; by = claim.0; are_slopes = all_in_lowest parts.slopes n (slope player profile) slopes; is_value = in_lowest value (along_slope player profile (mean (strategy_of profile i))) along; claim = claim.1 }, along)
+      let owns = own_are game mixtures len forms totals p.means p.are_means i player is in
+      let along = value_exact n parts.slopes own (slope player profile) (mean (strategy_of profile i)) slopes owns parts.value parts.is_value in
+      let means = are_means game mixtures len forms totals p.means p.are_means in
+      let others = rest_exact game form i player is profile p.means means parts.others parts.is_rest in
+      let dens = dens_if n parts.slopes (slope player profile) slopes in
+      let claim = claim_made parts.slopes parts.value left right dens along.lowest.ratio.positive parts.claim in (
+        record {
+          slopes = parts.slopes;
+          value = parts.value;
+          by = claim.0;
+          are_slopes = all_in_lowest parts.slopes n (slope player profile) slopes;
+          is_value = in_lowest parts.value (along_slope player profile (mean (strategy_of profile i))) along;
+          claim = claim.1;
+        },
+        made_cost game form profile valid i player is parts.value parts.others cost along others parts.is_cost,
+      )

@@ -5,38 +5,22 @@ use Rattle.std.proofs.lemmas.Option.{get_or_from_slice_get, slice_get_within}
 use Rattle.zr_base.specs.declared.step.Wide.{Wide}
 use Rattle.zr_base.specs.Steps.{◌>>=◌}
 use Rattle.zr_base.specs.Fractions.{Fraction, whole}
+use Rattle.zr_base.specs.Made.{made_from}
 use Rattle.zr_base.proofs.CrossLaws.{then_ok}
+use Rattle.zr_base.proofs.Made.{made_items}
+use Rattle.zr_base.proofs.Members.{all_found, each_of_all}
 use Rattle.zr_game.specs.Forms.{IsGame, IsPlayer}
 use Rattle.zr_game.specs.Means.{mean, slope}
 use Rattle.zr_game.specs.Players.{GameOf, PlayerOf}
 use Rattle.zr_game.specs.Profiles.{Strategy, strategy_of, total}
-use Rattle.zr_game.proofs.CommonDen.{each_of_all}
 use Rattle.zr_game.proofs.Items.{at_number}
-use Rattle.zr_mix.specs.Steps.{made_from, mean_steps, place_of, slope_steps, var_total}
+use Rattle.zr_mix.specs.Steps.{mean_steps, place_of, slope_steps, var_total}
 use Rattle.zr_mix.specs.Values.{AreMeans, AreReduced, IsReduced, item_of}
 use Rattle.zr_cert.specs.Certs.{MixtureOf, profile_with}
 use Rattle.zr_cert.specs.Forms.{IsMixtureForm}
 use Rattle.zr_check.specs.Parts.{mean_list}
 use Rattle.zr_check.specs.Bounds.{all_means, own_means}
 use Rattle.zr_check.proofs.MadeSums.{mean_exact, slope_exact}
-
--- each item of such a list was made
-pub made_items : {A : Type 0} (make : ℕ → Result A Wide) (k n : ℕ) (list : List A) → made_from make k n ≡ Ok list → (length list ≡ n) × ((v : ℕ) (d : A) → v < n → make (k + v) ≡ Ok (get_or list v d))
-made_items {A} make k zero list e =
-    let none : [] ≡ list = cc in
-    (subst (λ (xs : List A). length xs ≡ 0) none refl, λ v d h. absurd (omega (arith, h)))
-made_items {A} make k (suc n) list e =
-    let s = then_ok (make k) (λ a. made_from make (k + 1) n >>= λ rest. Ok (a ∷ rest)) list e in
-    let t = then_ok (made_from make (k + 1) n) (λ rest. Ok (s.0 ∷ rest)) list s.2 in
-    let more = made_items make (k + 1) n t.0 t.1 in
-    let is : s.0 ∷ t.0 ≡ list = cc in
-    let len = more.0 in
-    subst (λ (xs : List A). (length xs ≡ suc n) × ((v : ℕ) (d : A) → v < suc n → make (k + v) ≡ Ok (get_or xs v d))) is (omega (arith, len), item s.0 t.0 s.1 more.1)
-  where
-    item : (a : A) (rest : List A) → make k ≡ Ok a → ((v : ℕ) (d : A) → v < n → make (k + 1 + v) ≡ Ok (get_or rest v d)) → (v : ℕ) (d : A) → v < suc n → make (k + v) ≡ Ok (get_or (a ∷ rest) v d)
-    item a rest first each zero d h = ap make (let z : k + 0 ≡ k = omega arith in z) ∙ first
-    item a rest first each (suc v) d h =
-        ap make (let z : k + suc v ≡ k + 1 + v = omega arith in z) ∙ each v d (omega (arith, h))
 
 -- a list whose items are exact has the values
 pub made_reduced : (make : ℕ → Result Fraction Wide) (n : ℕ) (g : ℕ → Fraction) → ((v : ℕ) (f : Fraction) → v < n → make v ≡ Ok f → IsReduced f (g v)) → (list : List Fraction) → made_from make 0 n ≡ Ok list → AreReduced list n g
@@ -80,11 +64,6 @@ means_of (p ∷ ps) (q ∷ qs) means e (suc k) player is m found =
 pub strategy_is : (mixtures : List MixtureOf) (k : ℕ) (m : MixtureOf) → slice_get mixtures k ≡ Some m → strategy_of (profile_with mixtures) k ≡ m.parts
 strategy_is mixtures k m found =
     get_or-map (λ (other : MixtureOf). other.parts) mixtures k m [] (slice_get_within mixtures k m found) ∙ ap (λ (other : MixtureOf). other.parts) (get_or_from_slice_get mixtures k m m found)
-
--- an item that was found has what all have
-pub all_found : {A : Type 0} (P : A → Type 0) (xs : List A) (k : ℕ) (x : A) → All P xs → slice_get xs k ≡ Some x → P x
-all_found P xs k x all found =
-    subst P (get_or_from_slice_get xs k x x found) (all k x (slice_get_within xs k x found))
 
 module _ (game : GameOf) (mixtures : List MixtureOf) (len : length mixtures ≡ length game) where
   -- each player has a strategy

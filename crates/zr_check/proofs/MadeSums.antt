@@ -1,74 +1,98 @@
--- Means, slopes and values that were made in whole, and what they are.
-use Rattle.std.proofs.Common.{◌≡◌, ℕ, zero, suc, ◌+◌, ◌<◌, ◌==◌, arith, refl, sym, ap, subst, ◌∙◌, ℤ, pos, ◌+ℤ◌, ◌*ℤ◌, ◌<ℤ◌, Result, Ok, Bool, true, false, cond, List, [], ◌∷◌, length, get_or, lit<, ⊎_elim, ◌≤◌}
+-- Means, slopes, values and rests that were made in whole, and what they are.
+use Rattle.std.proofs.Common.{◌≡◌, ℕ, zero, suc, ◌+◌, ◌<◌, ◌==◌, arith, refl, sym, ap, subst, ◌∙◌, ℤ, pos, ◌+ℤ◌, ◌*ℤ◌, ◌<ℤ◌, Option, Some, None, Result, Ok, Bool, true, false, cond, List, [], ◌∷◌, length, get_or, ⊎_elim, ◌≤◌}
 use Rattle.std.specs.List.{filter, zip}
+use Rattle.std.specs.Option.{option_map_or}
 use Rattle.std.proofs.Math.IntN.{*ℤ_comm, zero-*ℤ}
 use Rattle.std.proofs.lemmas.Int.{ints}
 use Rattle.std.proofs.lemmas.Bool.{cases_lt}
 use Rattle.std.proofs.lemmas.List.{get_or_default, get_or_past}
 use Rattle.zr_base.specs.declared.step.Wide.{Wide}
 use Rattle.zr_base.specs.Steps.{IsNarrow, ◌>>=◌}
-use Rattle.zr_base.specs.Fractions.{Fraction, HaveSameCross, over, plus, ratio, sum_below, sum_over, times, whole}
+use Rattle.zr_base.specs.Fractions.{Fraction, IsSame, over, plus, ratio, sum_below, sum_over, times, whole}
 use Rattle.zr_base.specs.Lowest.{IsLowest, IsRatio, add_of, mul_of, reduce}
 use Rattle.zr_base.specs.Points.{PointOf, num_of, value_of}
 use Rattle.zr_base.specs.Terms.{Ascends, coef_at}
 use Rattle.zr_base.proofs.CrossLaws.{then_ok}
-use Rattle.zr_base.proofs.Divisors.{mul_positive}
-use Rattle.zr_base.proofs.Reduced.{IsExact, add_of_exact, mul_of_exact, reduce_lowest, reduce_same}
-use Rattle.zr_base.proofs.Sames.{plus_assoc, plus_left, plus_right, same_record, same_trans}
+use Rattle.zr_base.proofs.Divisors.{mul_positive, positive_factor}
+use Rattle.zr_base.proofs.Members.{each_filter, each_of_all}
+use Rattle.zr_base.proofs.Reduced.{add_of_exact, mul_of_exact, reduce_lowest}
+use Rattle.zr_base.proofs.SameLaws.{plus_same, reduce_is_same, same_refl, same_through, times_same}
+use Rattle.zr_base.proofs.Sames.{plus_assoc, same_record}
+use Rattle.zr_base.proofs.Wholes.{lowest_whole}
 use Rattle.zr_base.proofs.Worth.{Each}
 use Rattle.zr_game.specs.declared.player.CrossTerm.{CrossTerm}
+use Rattle.zr_game.specs.declared.player.Other.{Other}
+use Rattle.zr_game.specs.Costs.{other_at}
 use Rattle.zr_game.specs.CostSteps.{sum_made}
-use Rattle.zr_game.specs.Forms.{IsCrossForm, IsGame, IsPlayer}
-use Rattle.zr_game.specs.Means.{mean, slope}
+use Rattle.zr_game.specs.Forms.{IsCrossForm, IsGame, IsOtherForm, IsOthersVar, IsPlayer}
+use Rattle.zr_game.specs.Means.{mean, rest, slope}
 use Rattle.zr_game.specs.Players.{GameOf, PlayerOf}
 use Rattle.zr_game.specs.Profiles.{Part, Profile, Strategy, total, weighted}
-use Rattle.zr_game.proofs.Columns.{Each_filter}
-use Rattle.zr_game.proofs.CommonDen.{each_of_all}
-use Rattle.zr_game.proofs.CostSums.{none_plus, reduce_whole, zero_lowest}
+use Rattle.zr_game.proofs.CostSums.{none_plus, plus_first, plus_last, same_plus_none, times_first, zero_lowest}
 use Rattle.zr_game.proofs.Items.{at_number}
 use Rattle.zr_game.proofs.TermColumns.{ascends}
-use Rattle.zr_mix.specs.Steps.{mean_steps, place_of, share, slope_steps, slope_term, value_steps}
+use Rattle.zr_mix.specs.Steps.{mean_in, mean_steps, rest_steps, rest_term, share, slope_steps, slope_term, times_mean, value_steps}
 use Rattle.zr_mix.specs.Values.{AreMeans, AreReduced, IsReduced, item_of, term_at}
 use Rattle.zr_mix.proofs.Filtered.{plus_none}
-use Rattle.zr_mix.proofs.Places.{at_means}
-use Rattle.zr_mix.proofs.Products.{product_made, product_of, times_same, value_along}
+use Rattle.zr_mix.proofs.Places.{at_means, rest_at_means}
+use Rattle.zr_mix.proofs.Products.{product_made, product_of, value_along}
 use Rattle.zr_mix.proofs.Scaling.{one_share}
 use Rattle.zr_cert.specs.Forms.{IsPartForm, IsWeight}
 
--- a sum whose items are made exactly is exact
-pub sum_exact : {A : Type 0} (make : A → Result Fraction Wide) (g : A → Fraction) (P : A → Type 0) → ((x : A) → P x → (a : Fraction) → make x ≡ Ok a → IsExact a (g x)) → (xs : List A) (s f : Fraction) → Each P xs → IsLowest s → sum_made make s xs ≡ Ok f → IsExact f (plus s (sum_over xs g))
-sum_exact make g P exact [] s f all lowest e =
-    let same : s ≡ f = cc in
-    subst (λ (z : Fraction). IsExact z (plus s (whole (pos 0)))) same (record { lowest = lowest; same = ap (λ (z : Fraction). s.num *ℤ z.den) (plus_none s) ∙ sym (ap (λ (z : Fraction). z.num *ℤ s.den) (plus_none s)) })
-sum_exact make g P exact (x ∷ xs) s f all lowest e =
-    let made = then_ok (make x) (λ a. add_of s a >>= λ r. sum_made make r xs) f e in
-    let a = made.0 in
-    let added = then_ok (add_of s a) (λ r. sum_made make r xs) f made.2 in
-    let r = added.0 in
-    let item = exact x all.0 a made.1 in
-    let sum = add_of_exact s a r lowest.ratio.positive item.lowest.ratio.positive added.1 in
-    let rest = sum_exact make g P exact xs r f all.1 sum.lowest added.2 in
-    let so_far = plus_right r s a (g x) item.lowest.ratio.positive sum.same item.same in
+-- a sum and a product that were made
+pub sum_reduced : (a b f : Fraction) → (pos 0) <ℤ a.den → (pos 0) <ℤ b.den → add_of a b ≡ Ok f → IsReduced f (plus a b)
+sum_reduced a b f above below e =
+    let x = add_of_exact a b f above below e in
     record {
-      lowest = rest.lowest;
-      same = subst (λ (z : Fraction). HaveSameCross f z) (sym (plus_assoc s (g x) (sum_over xs g))) (plus_left f (sum_over xs g) r (plus s (g x)) sum.lowest.ratio.positive rest.same so_far);
+      lowest = x.lowest;
+      same = record { left = x.lowest.ratio.positive; right = mul_positive a.den b.den above below; cross = x.same };
     }
 
--- a sum from 0 on
-pub sum_from_zero : {A : Type 0} (make : A → Result Fraction Wide) (g : A → Fraction) (P : A → Type 0) → ((x : A) → P x → (a : Fraction) → make x ≡ Ok a → IsExact a (g x)) → (xs : List A) (f : Fraction) → Each P xs → sum_made make (whole (pos 0)) xs ≡ Ok f → IsExact f (sum_over xs g)
-sum_from_zero make g P exact xs f all e =
-    subst (IsExact f) (none_plus (sum_over xs g)) (sum_exact make g P exact xs (whole (pos 0)) f all zero_lowest e)
+pub product_reduced : (a b f : Fraction) → (pos 0) <ℤ a.den → (pos 0) <ℤ b.den → mul_of a b ≡ Ok f → IsReduced f (times a b)
+product_reduced a b f above below e =
+    let x = mul_of_exact a b f above below e in
+    record {
+      lowest = x.lowest;
+      same = record { left = x.lowest.ratio.positive; right = mul_positive a.den b.den above below; cross = x.same };
+    }
+
+module _ {A : Type 0} (make : A → Result Fraction Wide) (g : A → Fraction) (P : A → Type 0) (exact : (x : A) → P x → (a : Fraction) → make x ≡ Ok a → IsReduced a (g x)) where
+  -- a sum whose items are made exactly is exact
+  pub sum_exact : (xs : List A) (s f : Fraction) → Each P xs → IsLowest s → sum_made make s xs ≡ Ok f → IsReduced f (plus s (sum_over xs g))
+  sum_exact [] s f all lowest e =
+      let same : s ≡ f = cc in
+      subst (λ (z : Fraction). IsReduced z (plus s (whole (pos 0)))) same (record { lowest = lowest; same = same_plus_none s lowest })
+  sum_exact (x ∷ xs) s f all lowest e =
+      let made = then_ok (make x) (λ a. add_of s a >>= λ r. sum_made make r xs) f e in
+      let a = made.0 in
+      let added = then_ok (add_of s a) (λ r. sum_made make r xs) f made.2 in
+      let r = added.0 in
+      let item = exact x all.0 a made.1 in
+      let sum = sum_reduced s a r lowest.ratio.positive item.lowest.ratio.positive added.1 in
+      let rest = sum_exact xs r f all.1 sum.lowest added.2 in
+      let so_far = plus_last r s a (g x) sum.same item.same in
+      let tail = sum_over xs g in
+      let whole_sum = plus_first f tail r (plus s (g x)) rest.same so_far in
+      record {
+        lowest = rest.lowest;
+        same = subst (λ (z : Fraction). IsSame f z) (sym (plus_assoc s (g x) tail)) whole_sum;
+      }
+
+  -- a sum from 0 on
+  pub sum_from_zero : (xs : List A) (f : Fraction) → Each P xs → sum_made make (whole (pos 0)) xs ≡ Ok f → IsReduced f (sum_over xs g)
+  sum_from_zero xs f all e =
+      subst (IsReduced f) (none_plus (sum_over xs g)) (sum_exact xs (whole (pos 0)) f all zero_lowest e)
 
 -- what two ratios that were reduced first multiply to
-reduced_product : (w t : ℤ) (x : Fraction) → IsRatio w t → IsRatio x.num x.den → (a : Fraction) → mul_of (reduce w t) (reduce x.num x.den) ≡ Ok a → IsExact a (times (ratio w t) x)
+reduced_product : (w t : ℤ) (x : Fraction) → IsRatio w t → IsRatio x.num x.den → (a : Fraction) → mul_of (reduce w t) (reduce x.num x.den) ≡ Ok a → IsReduced a (times (ratio w t) x)
 reduced_product w t x first second a e =
-    let p = reduce_lowest w t first in
-    let q = reduce_lowest x.num x.den second in
-    let m = mul_of_exact (reduce w t) (reduce x.num x.den) a p.ratio.positive q.ratio.positive e in
-    record {
-      lowest = m.lowest;
-      same = same_trans a (whole (pos 0)) (times (reduce w t) (reduce x.num x.den)) (times (ratio w t) x) (mul_positive (reduce w t).den (reduce x.num x.den).den p.ratio.positive q.ratio.positive) m.same (times_same (reduce w t) (reduce x.num x.den) (ratio w t) x p.ratio.positive q.ratio.positive (reduce_same w t first.positive) (reduce_same x.num x.den second.positive));
-    }
+    let p = reduce w t in
+    let q = reduce x.num x.den in
+    let above = (reduce_lowest w t first).ratio.positive in
+    let below = (reduce_lowest x.num x.den second).ratio.positive in
+    let m = product_reduced p q a above below e in
+    let both = times_same p q (ratio w t) x (reduce_is_same w t first) (reduce_is_same x.num x.den second) in
+    record { lowest = m.lowest; same = same_through a (times p q) (times (ratio w t) x) m.same both }
 
 number_narrow : (x : PointOf) (v : ℕ) → ((k : ℕ) (d : ℤ) → k < length x.num → IsNarrow (get_or x.num k d)) → IsNarrow (num_of x v)
 number_narrow x v all = ⊎_elim (λ (h : v < length x.num). all v (pos 0) h) (λ (h : length x.num ≤ v). past h) (cases_lt v (length x.num))
@@ -82,9 +106,14 @@ module _ (t : ℤ) (v : ℕ) where
   share_value part = times (ratio part.weight t) (value_of part.point v)
 
   module _ (weight : IsWeight t) where
-    share_exact : (part : Part) → IsPartForm part → (a : Fraction) → share t v part ≡ Ok a → IsExact a (share_value part)
+    positive : (pos 0) <ℤ t
+    positive = let h = weight.0 in omega (arith, ints, h)
+
+    share_exact : (part : Part) → IsPartForm part → (a : Fraction) → share t v part ≡ Ok a → IsReduced a (share_value part)
     share_exact part form a e =
-        reduced_product part.weight t (value_of part.point v) (record { positive = (let h = weight.0 in omega (arith, ints, h)); narrow_num = form.weight.1; narrow_den = weight.1 }) (record { positive = form.point.0; narrow_num = number_narrow part.point v form.point.2; narrow_den = form.point.1 }) a e
+        let first : IsRatio part.weight t = record { positive = positive; narrow_num = form.weight.1; narrow_den = weight.1 } in
+        let second : IsRatio (num_of part.point v) part.point.den = record { positive = form.point.0; narrow_num = number_narrow part.point v form.point.2; narrow_den = form.point.1 } in
+        reduced_product part.weight t (value_of part.point v) first second a e
 
     turned : (a b : Fraction) → plus a b ≡ plus b a
     turned a b = same_record (plus a b) (plus b a) (num a.num a.den b.num b.den) (*ℤ_comm a.den b.den)
@@ -93,8 +122,8 @@ module _ (t : ℤ) (v : ℕ) where
         num n d m e = omega (arith, ints)
 
     -- their sum is the weighted sum over the total
-    shares_over : (parts : Strategy) → Each IsPartForm parts → ((pos 0) <ℤ (sum_over parts share_value).den) × HaveSameCross (sum_over parts share_value) (over (weighted parts (λ x. value_of x v)) t)
-    shares_over [] all = (omega (arith, ints), zero-*ℤ (pos 1 *ℤ t))
+    shares_over : (parts : Strategy) → Each IsPartForm parts → IsSame (sum_over parts share_value) (over (weighted parts (λ x. value_of x v)) t)
+    shares_over [] all = record { left = omega (arith, ints); right = mul_positive (pos 1) t (omega (arith, ints)) positive; cross = zero-*ℤ (pos 1 *ℤ t) }
     shares_over (part ∷ parts) all =
         let rest = shares_over parts all.1 in
         let a = share_value part in
@@ -102,18 +131,19 @@ module _ (t : ℤ) (v : ℕ) where
         let s = sum_over parts share_value in
         let w = weighted parts (λ y. value_of y v) in
         let own = times (whole part.weight) x in
-        let positive : (pos 0) <ℤ t = (let h = weight.0 in omega (arith, ints, h)) in
-        let den = mul_positive a.den s.den (mul_positive t x.den positive all.0.point.0) rest.0 in
-        let right = plus_right (plus a s) a s (over w t) rest.0 refl rest.1 in
-        let more = one_share (plus a s) w x part.weight t positive (subst (λ (z : Fraction). HaveSameCross (plus a s) z) (turned a (over w t)) right) in
-        (den, subst (λ (z : Fraction). HaveSameCross (plus a s) (over z t)) (turned w own) more)
+        let below = all.0.point.0 in
+        let above = positive_factor w.den t rest.right positive in
+        let both = plus_same a s a (over w t) (same_refl a (mul_positive t x.den positive below)) rest in
+        let swapped = subst (λ (z : Fraction). IsSame (plus a s) z) (turned a (over w t)) both in
+        let more = one_share (plus a s) w x part.weight t positive above below swapped in
+        subst (λ (z : Fraction). IsSame (plus a s) (over z t)) (turned w own) more
 
     pub mean_exact : (parts : Strategy) → Each IsPartForm parts → t ≡ total parts → (f : Fraction) → mean_steps t parts v ≡ Ok f → IsReduced f (mean parts v)
     mean_exact parts all whole_total f e =
         let x = sum_from_zero (share t v) share_value IsPartForm share_exact parts f all e in
-        let s = shares_over parts all in
-        let r = same_trans f (whole (pos 0)) (sum_over parts share_value) (over (weighted parts (λ x. value_of x v)) t) s.0 x.same s.1 in
-        record { lowest = x.lowest; same = subst (λ (n : ℤ). HaveSameCross f (over (weighted parts (λ x. value_of x v)) n)) whole_total r }
+        let sum = weighted parts (λ x. value_of x v) in
+        let r = same_through f (sum_over parts share_value) (over sum t) x.same (shares_over parts all) in
+        record { lowest = x.lowest; same = subst (λ (n : ℤ). IsSame f (over sum n)) whole_total r }
 
 -- slopes at means
 coef_narrow : (low columns : ℕ) (ts : List (ℕ × ℤ)) (v : ℕ) → Ascends low columns ts → IsNarrow (coef_at ts v)
@@ -124,25 +154,51 @@ coef_narrow low columns (s ∷ ss) v all = either (s.0 == v) (coef_narrow (s.0 +
     either true rest = all.2
     either false rest = rest
 
-whole_lowest : (c : ℤ) → IsNarrow c → IsLowest (whole c)
-whole_lowest c narrow =
-    subst IsLowest (reduce_whole c) (reduce_lowest c (pos 1) (record { positive = omega (arith, ints); narrow_num = narrow; narrow_den = lit< tt }))
-
 module _ (game : GameOf) (form : IsGame game) (i : ℕ) (player : PlayerOf) (is : IsPlayer game i player) (profile : Profile) (means : List Fraction) (are : AreMeans game profile means) where
-  term_exact : (t : CrossTerm) → IsCrossForm game i (length player.vars) t → (a : Fraction) → slope_term game means t ≡ Ok a → IsExact a (term_at game means t)
+  term_exact : (t : CrossTerm) → IsCrossForm game i (length player.vars) t → (a : Fraction) → slope_term game means t ≡ Ok a → IsReduced a (term_at game means t)
   term_exact t f a e =
       let other = at_number game t.player f.player in
       let m = are t.player other.0 other.1 t.var (f.var other.0 other.1) in
-      mul_of_exact (whole t.coef) (item_of means (place_of game t.player t.var)) a (omega (arith, ints)) m.lowest.ratio.positive e
+      product_reduced (whole t.coef) (mean_in game means (t.player, t.var)) a (omega (arith, ints)) m.lowest.ratio.positive e
 
   pub slope_exact : (v : ℕ) (f : Fraction) → slope_steps game player means v ≡ Ok f → IsReduced f (slope player profile v)
   slope_exact v f e =
       let g = form.players i player is in
       let cross = IsCrossForm game i (length player.vars) in
-      let terms = Each_filter cross (λ t. t.own == v) player.cross (each_of_all cross player.cross g.cross) in
-      let start = whole_lowest (coef_at player.cost v) (coef_narrow 0 (length player.vars) player.cost v (ascends player.cost 0 (length player.vars) g.cost)) in
-      let x = sum_exact (slope_term game means) (term_at game means) cross term_exact (filter (λ t. t.own == v) player.cross) (whole (coef_at player.cost v)) f terms start e in
-      at_means game form i player is profile means are v f (record { lowest = x.lowest; same = x.same })
+      let own = coef_at player.cost v in
+      let ts = filter (λ t. t.own == v) player.cross in
+      let terms = each_filter cross (λ t. t.own == v) player.cross (each_of_all cross player.cross g.cross) in
+      let narrow = coef_narrow 0 (length player.vars) player.cost v (ascends player.cost 0 (length player.vars) g.cost) in
+      let x = sum_exact (slope_term game means) (term_at game means) cross term_exact ts (whole own) f terms (lowest_whole own narrow) e in
+      at_means game form i player is profile means are v f x
+
+  rest_term_exact : (t : Other) → IsOtherForm game i t → (a : Fraction) → rest_term game means t ≡ Ok a → IsReduced a (other_at (mean_in game means) t)
+  rest_term_exact t f a e = on t.second (λ at s. den at (f.second at s).1) made.2
+    where
+      den : (at : ℕ × ℕ) → IsOthersVar game i at → (pos 0) <ℤ (mean_in game means at).den
+      den at h =
+          let other = at_number game at.0 h.player in
+          (are at.0 other.0 other.1 at.1 (h.var other.0 other.1)).lowest.ratio.positive
+
+      made : (x : Fraction) × (mul_of (whole t.coef) (mean_in game means t.first) ≡ Ok x) × (times_mean game means x t.second ≡ Ok a)
+      made = then_ok (mul_of (whole t.coef) (mean_in game means t.first)) (λ x. times_mean game means x t.second) a e
+
+      one : IsReduced made.0 (times (whole t.coef) (mean_in game means t.first))
+      one = product_reduced (whole t.coef) (mean_in game means t.first) made.0 (omega (arith, ints)) (den t.first f.first) made.1
+
+      on : (o : Option (ℕ × ℕ)) → ((at : ℕ × ℕ) → o ≡ Some at → (pos 0) <ℤ (mean_in game means at).den) → times_mean game means made.0 o ≡ Ok a → IsReduced a (option_map_or (λ at. times (times (whole t.coef) (mean_in game means t.first)) (mean_in game means at)) o (times (whole t.coef) (mean_in game means t.first)))
+      on None dens h = let same : made.0 ≡ a = cc in subst (λ (z : Fraction). IsReduced z (times (whole t.coef) (mean_in game means t.first))) same one
+      on (Some at) dens h =
+          let first = times (whole t.coef) (mean_in game means t.first) in
+          let last = mean_in game means at in
+          let x = product_reduced made.0 last a one.lowest.ratio.positive (dens at refl) h in
+          record { lowest = x.lowest; same = times_first a last made.0 first x.same one.same }
+
+  pub rest_exact : (f : Fraction) → rest_steps game player means ≡ Ok f → IsReduced f (rest player profile)
+  rest_exact f e =
+      let terms = each_of_all (IsOtherForm game i) player.others (form.players i player is).others in
+      let x = sum_from_zero (rest_term game means) (other_at (mean_in game means)) (IsOtherForm game i) rest_term_exact player.others f terms e in
+      rest_at_means game form i player is profile means are (Ok f) x
 
 -- a value along a slope
 first_below : (n : ℕ) (f : ℕ → Fraction) → sum_below (suc n) f ≡ plus (f 0) (sum_below n (λ v. f (suc v)))
@@ -172,5 +228,8 @@ dens_if n xs g are =
 pub value_exact : (n : ℕ) (xs ys : List Fraction) (f g : ℕ → Fraction) → AreReduced xs n f → AreReduced ys n g → (r : Fraction) → value_steps xs ys ≡ Ok r → IsReduced r (sum_below n (λ v. times (f v) (g v)))
 value_exact n xs ys f g left right r e =
     let lens = left.len ∙ sym right.len in
-    let x = sum_from_zero product_made product_of HasDens (λ p dens a made. mul_of_exact p.0 p.1 a dens.0 dens.1 made) (zip xs ys) r (zip_dens xs ys (dens_if n xs f left) (dens_if n ys g right)) e in
-    value_along xs ys n f g left right r x.lowest (subst (λ k. HaveSameCross r (sum_below k (λ v. times (item_of xs v) (item_of ys v)))) left.len (subst (HaveSameCross r) (zip_below xs ys lens) x.same))
+    let one = λ (p : Fraction × Fraction) (dens : HasDens p) (a : Fraction) (made : product_made p ≡ Ok a). product_reduced p.0 p.1 a dens.0 dens.1 made in
+    let x = sum_from_zero product_made product_of HasDens one (zip xs ys) r (zip_dens xs ys (dens_if n xs f left) (dens_if n ys g right)) e in
+    let below = subst (λ (z : Fraction). IsSame r z) (zip_below xs ys lens) x.same in
+    let all = subst (λ k. IsSame r (sum_below k (λ v. times (item_of xs v) (item_of ys v)))) left.len below in
+    value_along xs ys n f g left right r x.lowest all

@@ -1,35 +1,31 @@
 -- A right certificate passes where no step of its check is too wide.
-use Rattle.std.proofs.Common.{◌≡◌, ◌↔◌, ℕ, suc, ◌-◌, arith, refl, subst, ℤ, Some, IsErr, Result, Ok, Err, List, [], ◌∷◌, ◌++◌, length, slice_get, unsigned_abs, All, inl, inr}
-use Rattle.std.specs.Int.{IsGcd}
+use Rattle.std.proofs.Common.{◌≡◌, ◌↔◌, ℕ, suc, ◌-◌, arith, refl, subst, ℤ, Some, IsErr, Result, Ok, Err, List, [], ◌∷◌, ◌++◌, length, slice_get, All, inl, inr}
 use Rattle.std.proofs.lemmas.Option.{slice_get_within}
 use Rattle.zr_base.specs.declared.step.Wide.{Wide}
 use Rattle.zr_base.specs.Fractions.{Fraction}
-use Rattle.zr_base.specs.Lowest.{IsLowest}
-use Rattle.zr_base.proofs.Gcds.{gcd_of_is}
+use Rattle.zr_base.proofs.Members.{all_found}
 use Rattle.zr_game.specs.Players.{GameOf, PlayerOf}
 use Rattle.zr_game.specs.Feasible.{IsFeasible}
 use Rattle.zr_game.specs.Forms.{IsGame, IsPlayer}
-use Rattle.zr_game.specs.Leaves.{Bound, root_leaf}
+use Rattle.zr_game.specs.Leaves.{Bound, bound_with, root_leaf}
 use Rattle.zr_game.specs.Profiles.{IsOfKind, IsStrategy, Part, Strategy, expected_cost, total}
 use Rattle.zr_game.specs.declared.kind.Kind.{Kind}
 use Rattle.zr_game.specs.declared.kind.Kind.TheVariants.{Pure}
 use Rattle.zr_game.proofs.Items.{All-of_map, at_number, one}
-use Rattle.zr_game.proofs.MeanLaws.{expected_den}
 use Rattle.zr_tree.specs.Nodes.{NodeOf}
-use Rattle.zr_tree.specs.Right.{IsRight}
+use Rattle.zr_tree.specs.Right.{IsRight, ProvesRow}
+use Rattle.zr_tree.specs.Steps.{IsWideForRow}
 use Rattle.zr_tree.specs.Trees.{TreeOf, preorder}
+use Rattle.zr_tree.proofs.Descent.{right_if_refuted}
 use Rattle.zr_tree.proofs.PassLaws.{passes_if}
-use Rattle.zr_mix.specs.Checks.{claim_row}
-use Rattle.zr_mix.proofs.Checking.{made_cost}
 use Rattle.zr_cert.specs.Certs.{BoundOf, CertOf, EmptyVerdict, MixtureOf, ProfileVerdict, VerdictOf, profile_with}
-use Rattle.zr_cert.specs.Forms.{IsBoundForm, IsCert, IsCostForm, IsMixtureForm, IsVerdictForm}
+use Rattle.zr_cert.specs.Forms.{IsBoundForm, IsCert, IsMixtureForm, IsVerdictForm}
 use Rattle.zr_check.specs.Right.{AreRightStrategies, IsRightBound, IsRightCert, IsRightHead, IsRightProfile, IsRightVerdict}
 use Rattle.zr_check.specs.Parts.{IsWidePart, StrategiesPass, mean_list}
 use Rattle.zr_check.specs.Bounds.{BoundPasses, BoundsPass, IsCostMade, TreePasses, all_means, cost_steps, no_point}
 use Rattle.zr_check.specs.Checks.{CertPasses, HeadPasses, ProfilePasses, VerdictPasses}
 use Rattle.zr_check.specs.WideSteps.{HasWidePart, HasWideStep, HeadIsWide, IsWideTree, VerdictIsWide}
-use Rattle.zr_check.proofs.Refuted.{right_if_refuted}
-use Rattle.zr_check.proofs.MadeLists.{all_found, strategy_is}
+use Rattle.zr_check.proofs.MadeLists.{strategy_is}
 use Rattle.zr_check.proofs.MadeClaims.{in_lowest, one_claim, same_reduced}
 use Rattle.zr_check.proofs.MadeCosts.{claim_of_cost}
 use Rattle.zr_check.proofs.Passing.{right_strategies}
@@ -52,15 +48,10 @@ all_made (p ∷ ps) (m ∷ ms) each err =
     let h = subst (λ (r : Result (List Fraction) Wide). IsErr r) (joined p ps m ms first.0 rest.0 first.1 rest.1) err in
     absurd cc
 
--- a printed cost is in lowest terms
-printed_lowest : (f : Fraction) → IsCostForm f → IsLowest f
-printed_lowest f form =
-    record { ratio = form.ratio; coprime = subst (IsGcd (unsigned_abs f.num) (unsigned_abs f.den)) form.lowest (gcd_of_is (unsigned_abs f.num) (unsigned_abs f.den)) }
-
 -- a right tree passes
 pub passes_if_right : (player : PlayerOf) (row : Bound) (nodes : List NodeOf) (t : TreeOf) → preorder t ≡ nodes → IsRight player row (root_leaf player) t → (IsWideTree player row nodes → ⊥) → TreePasses player row nodes
 passes_if_right player row nodes t listed right narrow =
-    (t, listed, passes_if player row t (root_leaf player) right (λ w. narrow (t, listed, w)))
+    (t, listed, passes_if (ProvesRow player row) (IsWideForRow player row) player t (root_leaf player) right (λ w. narrow (t, listed, w)))
 
 alone_if : (kind : Kind) (mixtures : List MixtureOf) → IsOfKind kind (profile_with mixtures) → (i : ℕ) (m : MixtureOf) → slice_get mixtures i ≡ Some m → kind ≡ Pure → length m.parts ≡ 1
 alone_if kind mixtures of_kind i m found pure =
@@ -106,12 +97,13 @@ module _ (game : GameOf) (form : IsGame game) (kind : Kind) (mixtures : List Mix
       let left = made.0.1.0 in
       let le = made.0.1.1 in
       let cost : IsCostMade game mixtures i player value left le = record { means = means.0; are_means = means.1; made = made.1 } in
-      let claim = claim_of_cost game form mixtures len forms right.strategies.totals i player is value left le cost in
-      let lowest = printed_lowest bound.cost (all_found IsBoundForm bounds i bound bound_forms found).cost in
-      let same = same_reduced value bound.cost (expected_cost player i profile) (expected_den game profile right.strategies.valid i player is (form.players i player is)) (in_lowest value (expected_cost player i profile) (made_cost game form profile right.strategies.valid i player is value claim.1)) (record { positive = lowest.ratio.positive; coprime = lowest.coprime; same = b.cost }) in
-      let one = one_claim game form profile right.strategies.valid i player is b.left left b.right le b.claim claim.0 in
-      let proof = subst (λ (r : ℤ). IsRight player (claim_row left r) (root_leaf player) b.proof.tree) one.1 (subst (λ (l : List ℤ). IsRight player (claim_row l b.right) (root_leaf player) b.proof.tree) one.0 b.proof.right) in
-      (left, le, subst (λ (f : Fraction). IsCostMade game mixtures i player f left le) same cost, passes_if_right player (claim_row left le) bound.tree b.proof.tree b.proof.listed proof (λ w. narrow (inr (inr (record { i = i; player = player; is_player = is; bound = bound; is_bound = found; value = value; left = left; right = le; made = cost; wide = w })))))
+      let claim = claim_of_cost game form mixtures len forms right.strategies.totals right.strategies.valid i player is value left le cost in
+      let lowest = (all_found IsBoundForm bounds i bound bound_forms found).cost in
+      let expected = expected_cost player i profile in
+      let same = same_reduced value bound.cost expected (in_lowest value expected claim.1) (record { coprime = lowest.coprime; same = b.cost }) in
+      let one = one_claim player i profile b.left left b.right le b.claim claim.0 in
+      let proof = subst (λ (r : ℤ). IsRight player (bound_with left r) (root_leaf player) b.proof.tree) one.1 (subst (λ (l : List ℤ). IsRight player (bound_with l b.right) (root_leaf player) b.proof.tree) one.0 b.proof.right) in
+      (left, le, subst (λ (f : Fraction). IsCostMade game mixtures i player f left le) same cost, passes_if_right player (bound_with left le) bound.tree b.proof.tree b.proof.listed proof (λ w. narrow (inr (inr (record { i = i; player = player; is_player = is; bound = bound; is_bound = found; value = value; left = left; right = le; made = cost; wide = w })))))
 
   pub bounds_pass : BoundsPass game mixtures bounds
   bounds_pass i player is bound found =

@@ -4,23 +4,22 @@ use Rattle.std.proofs.lemmas.Bool.{cases_lt}
 use Rattle.std.proofs.lemmas.List.{length-map}
 use Rattle.std.proofs.lemmas.List.Elements.{All-map}
 use Rattle.std.proofs.lemmas.Option.{slice_get-get_or, slice_get_within}
+use Rattle.zr_base.proofs.Members.{all_found}
 use Rattle.zr_game.specs.Players.{GameOf, PlayerOf}
 use Rattle.zr_game.specs.Forms.{IsGame, IsPlayer}
-use Rattle.zr_game.specs.Leaves.{Bound, root_leaf}
+use Rattle.zr_game.specs.Leaves.{Bound, bound_with, root_leaf}
 use Rattle.zr_game.specs.Profiles.{IsOfKind, IsProfile, IsStrategy, Part, Strategy, total}
 use Rattle.zr_game.specs.declared.kind.Kind.{Kind}
 use Rattle.zr_game.specs.declared.kind.Kind.TheVariants.{Pure, Mixed}
 use Rattle.zr_game.proofs.Items.{at_number, one}
-use Rattle.zr_tree.specs.Form.{IsTree}
 use Rattle.zr_tree.specs.Nodes.{NodeOf}
-use Rattle.zr_tree.specs.Steps.{HasWideProof}
+use Rattle.zr_tree.specs.Right.{ProvesRow}
+use Rattle.zr_tree.specs.Steps.{HasWideProof, IsWideForRow}
 use Rattle.zr_tree.proofs.Forests.{same_tree}
 use Rattle.zr_tree.proofs.PassLaws.{right_if}
-use Rattle.zr_mix.specs.Checks.{claim_row}
-use Rattle.zr_mix.proofs.Checking.{made_cost}
 use Rattle.zr_cert.specs.Certs.{BoundOf, CertOf, EmptyVerdict, MixtureOf, ProfileVerdict, VerdictOf, profile_with}
 use Rattle.zr_cert.specs.Forms.{IsBoundForm, IsCert, IsEmptyNode, IsMixtureForm, IsTreeWith, IsVerdictForm}
-use Rattle.zr_check.specs.Right.{AreRightStrategies, IsRightBound, IsRightCert, IsRightProfile, IsRightVerdict, ProvesEmpty, ProvesRow}
+use Rattle.zr_check.specs.Right.{AreRightStrategies, IsRightBound, IsRightCert, IsRightProfile, IsRightVerdict, IsEmptyTree, IsRowTree}
 use Rattle.zr_check.specs.Truth.{IsTrueVerdict}
 use Rattle.zr_check.specs.Parts.{PartPasses, StrategiesPass}
 use Rattle.zr_check.specs.Bounds.{BoundPasses, BoundsPass, TreePasses, no_point}
@@ -28,17 +27,18 @@ use Rattle.zr_check.specs.Checks.{CertPasses, VerdictPasses}
 use Rattle.zr_check.specs.WideSteps.{HasWideCost, HasWidePart, HasWideStep, HasWideTree, IsWideTree, VerdictIsWide}
 use Rattle.zr_check.proofs.Refuted.{refuted_if_right}
 use Rattle.zr_check.proofs.Truths.{true_of_right}
-use Rattle.zr_check.proofs.MadeLists.{all_found, mixture_at, strategy_is}
+use Rattle.zr_check.proofs.MadeLists.{mixture_at, strategy_is}
 use Rattle.zr_check.proofs.MadeCosts.{claim_of_cost, made_or_wide, one_made}
 
 -- the tree that passes is right, and no step of it is too wide
-pub proves_if_passes : (player : PlayerOf) (row : Bound) (nodes : List NodeOf) → IsTree nodes → TreePasses player row nodes → ProvesRow player row nodes
-proves_if_passes player row nodes whole p =
-    record { whole = whole; tree = p.0; listed = p.1; right = (right_if player row p.0 (root_leaf player) p.2).0 }
+pub proves_if_passes : (player : PlayerOf) (row : Bound) (nodes : List NodeOf) → TreePasses player row nodes → IsRowTree player row nodes
+proves_if_passes player row nodes p =
+    let passed = right_if (ProvesRow player row) (IsWideForRow player row) player p.0 (root_leaf player) p.2 in
+    record { tree = p.0; listed = p.1; right = passed.0 }
 
 pub narrow_if_passes : (player : PlayerOf) (row : Bound) (nodes : List NodeOf) → TreePasses player row nodes → IsWideTree player row nodes → ⊥
 narrow_if_passes player row nodes p w =
-    (right_if player row p.0 (root_leaf player) p.2).1 (subst (HasWideProof player row (root_leaf player)) (same_tree w.0 p.0 (w.1 ∙ sym p.1)) w.2)
+    (right_if (ProvesRow player row) (IsWideForRow player row) player p.0 (root_leaf player) p.2).1 (subst (HasWideProof player row (root_leaf player)) (same_tree w.0 p.0 (w.1 ∙ sym p.1)) w.2)
 
 module _ (game : GameOf) (kind : Kind) (mixtures : List MixtureOf) (len : length mixtures ≡ length game) (forms : All IsMixtureForm mixtures) (pass : StrategiesPass game kind mixtures) where
   -- a part of a number passes
@@ -94,23 +94,24 @@ right_strategies game kind mixtures len forms pass = record {
   totals = totals_pass game kind mixtures len forms pass;
 }
 
-module _ (game : GameOf) (form : IsGame game) (kind : Kind) (mixtures : List MixtureOf) (bounds : List BoundOf) (len : length mixtures ≡ length game) (forms : All IsMixtureForm mixtures) (lens : length bounds ≡ length game) (bound_forms : All IsBoundForm bounds) (pass : StrategiesPass game kind mixtures) (bounds_pass : BoundsPass game mixtures bounds) where
-  bound_passes : (i : ℕ) (player : PlayerOf) → IsPlayer game i player → (bound : BoundOf) → IsBoundForm bound → BoundPasses game mixtures i player bound → IsRightBound player i (profile_with mixtures) bound
-  bound_passes i player is bound bound_form p =
+module _ (game : GameOf) (form : IsGame game) (kind : Kind) (mixtures : List MixtureOf) (bounds : List BoundOf) (len : length mixtures ≡ length game) (forms : All IsMixtureForm mixtures) (lens : length bounds ≡ length game) (pass : StrategiesPass game kind mixtures) (bounds_pass : BoundsPass game mixtures bounds) where
+  bound_passes : (i : ℕ) (player : PlayerOf) → IsPlayer game i player → (bound : BoundOf) → BoundPasses game mixtures i player bound → IsRightBound player i (profile_with mixtures) bound
+  bound_passes i player is bound p =
       let valid = profile_passes game kind mixtures len forms pass in
-      let made = claim_of_cost game form mixtures len forms (totals_pass game kind mixtures len forms pass) i player is bound.cost p.0 p.1 p.2 in
+      let totals = totals_pass game kind mixtures len forms pass in
+      let made = claim_of_cost game form mixtures len forms totals valid i player is bound.cost p.0 p.1 p.2 in
       record {
-        cost = (made_cost game form (profile_with mixtures) valid i player is bound.cost made.1).same;
+        cost = made.1.same;
         left = p.0;
         right = p.1;
         claim = made.0;
-        proof = proves_if_passes player (claim_row p.0 p.1) bound.tree bound_form.tree.whole p.3;
+        proof = proves_if_passes player (bound_with p.0 p.1) bound.tree p.3;
       }
 
   pub right_profile : IsRightProfile game kind mixtures bounds
   right_profile = record {
     strategies = right_strategies game kind mixtures len forms pass;
-    bounds_of = λ i player is. let b = at_number bounds i (let h = slice_get_within game i player is in omega (arith, h, lens)) in (b.0, b.1, bound_passes i player is b.0 (all_found IsBoundForm bounds i b.0 bound_forms b.1) (bounds_pass i player is b.0 b.1));
+    bounds_of = λ i player is. let b = at_number bounds i (let h = slice_get_within game i player is in omega (arith, h, lens)) in (b.0, b.1, bound_passes i player is b.0 (bounds_pass i player is b.0 b.1));
   }
 
   narrow_parts : HasWidePart game mixtures → ⊥
@@ -126,26 +127,26 @@ module _ (game : GameOf) (form : IsGame game) (kind : Kind) (mixtures : List Mix
   narrow_trees w =
       let p = bounds_pass w.i w.player w.is_player w.bound w.is_bound in
       let same = one_made game mixtures w.i w.player w.value w.bound.cost w.left p.0 w.right p.1 w.made p.2 in
-      narrow_if_passes w.player (claim_row p.0 p.1) w.bound.tree p.3 (subst (λ (r : ℤ). IsWideTree w.player (claim_row p.0 r) w.bound.tree) same.2 (subst (λ (l : List ℤ). IsWideTree w.player (claim_row l w.right) w.bound.tree) same.1 w.wide))
+      narrow_if_passes w.player (bound_with p.0 p.1) w.bound.tree p.3 (subst (λ (r : ℤ). IsWideTree w.player (bound_with p.0 r) w.bound.tree) same.2 (subst (λ (l : List ℤ). IsWideTree w.player (bound_with l w.right) w.bound.tree) same.1 w.wide))
 
   pub narrow_profile : VerdictIsWide game (ProfileVerdict mixtures bounds) → ⊥
   narrow_profile w =
       ⊎_elim narrow_parts (λ (v : HasWideCost game mixtures ⊎ HasWideTree game mixtures bounds). ⊎_elim narrow_costs narrow_trees v) w
 
-empty_if_passes : (player : PlayerOf) (nodes : List NodeOf) → IsTreeWith IsEmptyNode nodes → TreePasses player (no_point player) nodes → ProvesEmpty player nodes
+empty_if_passes : (player : PlayerOf) (nodes : List NodeOf) → IsTreeWith IsEmptyNode nodes → TreePasses player (no_point player) nodes → IsEmptyTree player nodes
 empty_if_passes player nodes form p =
-    let proof = proves_if_passes player (no_point player) nodes form.whole p in
-    record { whole = form.whole; tree = proof.tree; listed = proof.listed; refuted = refuted_if_right player (no_point player) proof.tree (root_leaf player) (subst (All IsEmptyNode) (sym proof.listed) form.each) proof.right }
+    let proof = proves_if_passes player (no_point player) nodes p in
+    record { tree = proof.tree; listed = proof.listed; refuted = refuted_if_right player (no_point player) proof.tree (root_leaf player) (subst (All IsEmptyNode) (sym proof.listed) form.each) proof.right }
 
 module _ (game : GameOf) (form : IsGame game) (kind : Kind) where
   verdict_right : (verdict : VerdictOf) → IsVerdictForm (length game) verdict → VerdictPasses game kind verdict → IsRightVerdict game kind verdict
   verdict_right (ProfileVerdict mixtures bounds) v p =
-      right_profile game form kind mixtures bounds v.0 v.1 v.2 v.3 p.0 p.1
+      right_profile game form kind mixtures bounds v.0 v.1 v.2 p.0 p.1
   verdict_right (EmptyVerdict i nodes) v p = (p.0, p.1, empty_if_passes p.0 nodes v.1 p.2)
 
   verdict_narrow : (verdict : VerdictOf) → IsVerdictForm (length game) verdict → VerdictPasses game kind verdict → VerdictIsWide game verdict → ⊥
   verdict_narrow (ProfileVerdict mixtures bounds) v p w =
-      narrow_profile game form kind mixtures bounds v.0 v.1 v.2 v.3 p.0 p.1 w
+      narrow_profile game form kind mixtures bounds v.0 v.1 v.2 p.0 p.1 w
   verdict_narrow (EmptyVerdict i nodes) v p w =
       let same = one game i w.0 p.0 w.1 p.1 in
       narrow_if_passes p.0 (no_point p.0) nodes p.2 (subst (λ (player : PlayerOf). IsWideTree player (no_point player) nodes) same w.2)

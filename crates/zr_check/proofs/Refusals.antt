@@ -5,16 +5,16 @@ use Rattle.std.proofs.lemmas.Option.{slice_get_within}
 use Rattle.zr_base.specs.Fractions.{Fraction}
 use Rattle.zr_game.specs.Players.{GameOf, PlayerOf}
 use Rattle.zr_game.specs.Forms.{IsPlayer}
-use Rattle.zr_game.specs.Leaves.{Bound, root_leaf}
+use Rattle.zr_game.specs.Leaves.{Bound, bound_with, root_leaf}
 use Rattle.zr_game.specs.Profiles.{Part}
 use Rattle.zr_game.specs.declared.kind.Kind.{Kind}
 use Rattle.zr_game.proofs.Items.{one}
 use Rattle.zr_tree.specs.Nodes.{NodeOf}
-use Rattle.zr_tree.specs.Steps.{IsRefusedAt, Passes as TreeIsPassed}
+use Rattle.zr_tree.specs.Right.{ProvesRow}
+use Rattle.zr_tree.specs.Steps.{IsRefusedAt, IsWideForRow, Passes as TreeIsPassed}
 use Rattle.zr_tree.specs.Trees.{TreeOf}
 use Rattle.zr_tree.proofs.Forests.{same_tree}
 use Rattle.zr_tree.proofs.PassLaws.{exclusive, one_fault}
-use Rattle.zr_mix.specs.Checks.{claim_row}
 use Rattle.zr_cert.specs.declared.fault.CertFault.{CertFault}
 use Rattle.zr_cert.specs.declared.fault.CertFault.TheVariants.{Bad, Wide as TooWide}
 use Rattle.zr_cert.specs.Certs.{BoundOf, CertOf, EmptyVerdict, MixtureOf, ProfileVerdict, VerdictOf}
@@ -102,12 +102,12 @@ module _ (kind : Kind) (mixtures : List MixtureOf) where
 module _ (player : PlayerOf) (row : Bound) (nodes : List NodeOf) (line : ℕ) where
   tree_apart : (fault : CertFault) → TreePasses player row nodes → TreeRefused player row nodes line fault → ⊥
   tree_apart fault p r =
-      exclusive player row r.0 0 (root_leaf player) r.1 (subst (TreeIsPassed player row (root_leaf player)) (same_tree p.0 r.0 (p.1 ∙ sym r.2)) p.2) r.3
+      exclusive (ProvesRow player row) (IsWideForRow player row) player r.0 0 (root_leaf player) r.1 (subst (TreeIsPassed player row (root_leaf player)) (same_tree p.0 r.0 (p.1 ∙ sym r.2)) p.2) r.3
 
   tree_one : (f g : CertFault) → TreeRefused player row nodes line f → TreeRefused player row nodes line g → f ≡ g
   tree_one f g r s =
       let same = same_tree r.0 s.0 (r.2 ∙ sym s.2) in
-      let first = one_fault player row s.0 0 (root_leaf player) r.1 s.1 (subst (λ (t : TreeOf). IsRefusedAt player row 0 (root_leaf player) t r.1) same r.3) s.3 in
+      let first = one_fault (ProvesRow player row) (IsWideForRow player row) player s.0 0 (root_leaf player) r.1 s.1 (subst (λ (t : TreeOf). IsRefusedAt player row 0 (root_leaf player) t r.1) same r.3) s.3 in
       r.4 ∙ ap (at_line line) first ∙ sym s.4
 
 -- the lines of a bound
@@ -121,13 +121,13 @@ module _ (game : GameOf) (mixtures : List MixtureOf) (line i : ℕ) (player : Pl
 
   abbrev WrongTree : CertFault → Type 0
   WrongTree fault =
-      (left : List ℤ) × (right : ℤ) × IsCostMade game mixtures i player bound.cost left right × TreeRefused player (claim_row left right) bound.tree (line + 1) fault
+      (left : List ℤ) × (right : ℤ) × IsCostMade game mixtures i player bound.cost left right × TreeRefused player (bound_with left right) bound.tree (line + 1) fault
 
   -- a tree that is refused for a claim that was made is refused for the one claim that is made
-  same_claim : (fault : CertFault) (value : Fraction) (left : List ℤ) (right : ℤ) → IsCostMade game mixtures i player value left right → (w : WrongTree fault) → TreeRefused player (claim_row left right) bound.tree (line + 1) fault
+  same_claim : (fault : CertFault) (value : Fraction) (left : List ℤ) (right : ℤ) → IsCostMade game mixtures i player value left right → (w : WrongTree fault) → TreeRefused player (bound_with left right) bound.tree (line + 1) fault
   same_claim fault value left right made w =
       let same = one_made game mixtures i player bound.cost value w.0 left w.1 right w.2 made in
-      subst (λ (r : ℤ). TreeRefused player (claim_row left r) bound.tree (line + 1) fault) same.2 (subst (λ (l : List ℤ). TreeRefused player (claim_row l w.1) bound.tree (line + 1) fault) same.1 w.3)
+      subst (λ (r : ℤ). TreeRefused player (bound_with left r) bound.tree (line + 1) fault) same.2 (subst (λ (l : List ℤ). TreeRefused player (bound_with l w.1) bound.tree (line + 1) fault) same.1 w.3)
 
   -- a value that is made isn't another one
   one_cost : (value : Fraction) (left : List ℤ) (right : ℤ) → IsCostMade game mixtures i player value left right → (left' : List ℤ) (right' : ℤ) → IsCostMade game mixtures i player bound.cost left' right' → value ≡ bound.cost
@@ -136,7 +136,7 @@ module _ (game : GameOf) (mixtures : List MixtureOf) (line i : ℕ) (player : Pl
 
   bound_apart : (fault : CertFault) → BoundPasses game mixtures i player bound → BoundRefused game mixtures line i player bound fault → ⊥
   bound_apart fault p r =
-      ⊎_elim (λ (a : WideCost fault). made_or_wide game mixtures i player bound.cost p.0 p.1 p.2 a.0) (λ (a : OtherCost fault ⊎ WrongTree fault). ⊎_elim (λ (b : OtherCost fault). b.4 (one_cost b.0 b.1 b.2 b.3 p.0 p.1 p.2)) (λ (b : WrongTree fault). tree_apart player (claim_row p.0 p.1) bound.tree (line + 1) fault p.3 (same_claim fault bound.cost p.0 p.1 p.2 b)) a) r
+      ⊎_elim (λ (a : WideCost fault). made_or_wide game mixtures i player bound.cost p.0 p.1 p.2 a.0) (λ (a : OtherCost fault ⊎ WrongTree fault). ⊎_elim (λ (b : OtherCost fault). b.4 (one_cost b.0 b.1 b.2 b.3 p.0 p.1 p.2)) (λ (b : WrongTree fault). tree_apart player (bound_with p.0 p.1) bound.tree (line + 1) fault p.3 (same_claim fault bound.cost p.0 p.1 p.2 b)) a) r
 
   made_not_wide : (fault other : CertFault) → WideCost fault → OtherCost other ⊎ WrongTree other → ⊥
   made_not_wide fault other w a =
@@ -144,7 +144,7 @@ module _ (game : GameOf) (mixtures : List MixtureOf) (line i : ℕ) (player : Pl
 
   bound_one : (f g : CertFault) → BoundRefused game mixtures line i player bound f → BoundRefused game mixtures line i player bound g → f ≡ g
   bound_one f g =
-      either_one WideCost (λ x. OtherCost x ⊎ WrongTree x) made_not_wide f g (λ a b. a.1 ∙ sym b.1) (either_one OtherCost WrongTree (λ x y a b. a.4 (one_cost a.0 a.1 a.2 a.3 b.0 b.1 b.2)) f g (λ a b. a.5 ∙ sym b.5) (λ a b. tree_one player (claim_row b.0 b.1) bound.tree (line + 1) f g (same_claim f bound.cost b.0 b.1 b.2 a) b.3))
+      either_one WideCost (λ x. OtherCost x ⊎ WrongTree x) made_not_wide f g (λ a b. a.1 ∙ sym b.1) (either_one OtherCost WrongTree (λ x y a b. a.4 (one_cost a.0 a.1 a.2 a.3 b.0 b.1 b.2)) f g (λ a b. a.5 ∙ sym b.5) (λ a b. tree_one player (bound_with b.0 b.1) bound.tree (line + 1) f g (same_claim f bound.cost b.0 b.1 b.2 a) b.3))
 
 -- the bounds' lines
 module _ (game : GameOf) (mixtures : List MixtureOf) (bounds : List BoundOf) where

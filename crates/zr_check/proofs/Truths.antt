@@ -6,21 +6,18 @@ use Rattle.zr_game.specs.declared.kind.Kind.{Kind}
 use Rattle.zr_game.specs.Equilibria.{HasNoEquilibrium}
 use Rattle.zr_game.specs.Feasible.{IsFeasible}
 use Rattle.zr_game.specs.Forms.{IsGame, IsPlayer}
-use Rattle.zr_game.specs.Leaves.{Bound, BoundHolds, root_leaf}
+use Rattle.zr_game.specs.Leaves.{Bound, BoundHolds, bound_with, root_leaf}
 use Rattle.zr_game.specs.Players.{GameOf, PlayerOf}
 use Rattle.zr_game.specs.Profiles.{IsStrategy, Strategy, strategy_of}
-use Rattle.zr_tree.specs.Form.{IsNodeForm}
 use Rattle.zr_tree.specs.Nodes.{NodeOf}
 use Rattle.zr_tree.specs.Right.{IsRight}
 use Rattle.zr_tree.specs.Trees.{TreeOf, preorder}
-use Rattle.zr_tree.proofs.Descent.{holds_at_root, proofs_positive}
-use Rattle.zr_mix.specs.Checks.{HasClaims, claim_row}
+use Rattle.zr_tree.proofs.Descent.{holds_at_root, none_at_root}
+use Rattle.zr_mix.specs.Checks.{HasClaims}
 use Rattle.zr_mix.proofs.Checking.{enough}
 use Rattle.zr_cert.specs.Certs.{BoundOf, CertOf, EmptyVerdict, MixtureOf, ProfileVerdict, VerdictOf, profile_with}
-use Rattle.zr_check.specs.Right.{IsRightCert, IsRightProfile, IsRightVerdict, ProvesEmpty}
+use Rattle.zr_check.specs.Right.{IsRightCert, IsRightProfile, IsRightVerdict, IsEmptyTree}
 use Rattle.zr_check.specs.Truth.{IsTrueVerdict}
-use Rattle.zr_check.specs.Bounds.{no_point}
-use Rattle.zr_check.proofs.Refuted.{none_meets, right_if_refuted}
 
 -- a strategy has a feasible point
 feasible_point : (player : PlayerOf) (parts : Strategy) → IsStrategy player parts → (x : PointOf) × IsFeasible player x
@@ -29,23 +26,23 @@ feasible_point player (part ∷ parts) s = (part.point, All-head (λ other. IsFe
 
 module _ (game : GameOf) (form : IsGame game) where
   -- the row that a right tree proves holds at each feasible point
-  pub row_holds : (i : ℕ) (player : PlayerOf) → IsPlayer game i player → (row : Bound) (t : TreeOf) → All IsNodeForm (preorder t) → IsRight player row (root_leaf player) t → (x : PointOf) → IsFeasible player x → BoundHolds player x row
-  row_holds i player is row t nodes right x feasible =
+  pub row_holds : (i : ℕ) (player : PlayerOf) → IsPlayer game i player → (row : Bound) (t : TreeOf) → IsRight player row (root_leaf player) t → (x : PointOf) → IsFeasible player x → BoundHolds player x row
+  row_holds i player is row t right x feasible =
       let g = form.players i player is in
-      holds_at_root player x feasible g.rows g.pairs row t (proofs_positive t nodes) right
+      holds_at_root player x feasible g.rows g.pairs row t right
 
   claims : (kind : Kind) (mixtures : List MixtureOf) (bounds : List BoundOf) → IsRightProfile game kind mixtures bounds → HasClaims game (profile_with mixtures)
   claims kind mixtures bounds right i player is =
       let b = (right.bounds_of i player is).2 in
       let p = b.proof in
-      (b.left, b.right, (b.claim, λ x feasible. row_holds i player is (claim_row b.left b.right) p.tree (subst (All IsNodeForm) (sym p.listed) p.whole.forms) p.right x feasible))
+      (b.left, b.right, (b.claim, λ x feasible. row_holds i player is (bound_with b.left b.right) p.tree p.right x feasible))
 
-  none_feasible : (i : ℕ) (player : PlayerOf) → IsPlayer game i player → (nodes : List NodeOf) → ProvesEmpty player nodes → (x : PointOf) → IsFeasible player x → ⊥
+  none_feasible : (i : ℕ) (player : PlayerOf) → IsPlayer game i player → (nodes : List NodeOf) → IsEmptyTree player nodes → (x : PointOf) → IsFeasible player x → ⊥
   none_feasible i player is nodes p x feasible =
-      let right = right_if_refuted player (no_point player) p.tree (root_leaf player) p.refuted in
-      none_meets player x feasible.point (row_holds i player is (no_point player) p.tree (subst (All IsNodeForm) (sym p.listed) p.whole.forms) right x feasible)
+      let g = form.players i player is in
+      none_at_root player x feasible g.rows g.pairs p.tree p.refuted
 
-  pub none_if_empty : (kind : Kind) (i : ℕ) (player : PlayerOf) → IsPlayer game i player → (nodes : List NodeOf) → ProvesEmpty player nodes → HasNoEquilibrium game kind
+  pub none_if_empty : (kind : Kind) (i : ℕ) (player : PlayerOf) → IsPlayer game i player → (nodes : List NodeOf) → IsEmptyTree player nodes → HasNoEquilibrium game kind
   none_if_empty kind i player is nodes p profile of_kind equilibrium =
       let f = feasible_point player (strategy_of profile i) (equilibrium.valid.strategies i player is) in
       none_feasible i player is nodes p f.0 f.1

@@ -8,11 +8,14 @@ use Rattle.zr_tree.specs.Nodes.{NodeOf}
 use Rattle.zr_cert.specs.declared.fault.CertFault.{CertFault}
 use Rattle.zr_cert.specs.Certs.{BoundOf, MixtureOf, ProfileVerdict, VerdictOf, cert_with, verdict_of}
 use Rattle.zr_check.specs.Rooms.{trees_of}
-use Rattle.zr_check.specs.Checks.{CertPasses, CertRefused, HeadPasses, ProfilePasses, VerdictPasses, VerdictRefused}
+use Rattle.zr_check.specs.Checks.{CertPasses, CertRefused, HeadPasses, HeadRefused, ProfilePasses, ProfileRefused, VerdictPasses, VerdictRefused}
 
 module _ (game : GameOf) (kind : Kind) (players : ℕ) (count : players ≡ length game) (v : Verdict) where
   pub head_passes : (verdict : VerdictOf) → verdict_of v ≡ verdict → ProfilePasses game kind verdict → HeadPasses game (cert_with kind players v)
   head_passes verdict e passes = (count, subst (ProfilePasses game kind) (sym e) passes)
+
+  pub head_refused : (verdict : VerdictOf) → verdict_of v ≡ verdict → (fault : CertFault) → ProfileRefused game kind verdict fault → HeadRefused game (cert_with kind players v) fault
+  head_refused verdict e fault refused = inr (count, subst (λ (w : VerdictOf). ProfileRefused game kind w fault) (sym e) refused)
 
   pub cert_passes : (verdict : VerdictOf) → verdict_of v ≡ verdict → VerdictPasses game kind verdict → CertPasses game (cert_with kind players v)
   cert_passes verdict e passes = (count, subst (VerdictPasses game kind) (sym e) passes)

@@ -22,7 +22,7 @@ pub record IsSameBench (old new : Bench) : Type 0 where
   pub slopes : length new.slopes.items ≡ length old.slopes.items
   pub left : length new.left.items ≡ length old.left.items
 
--- the value and the right side of the claim were made, and its left side was written; or a step was too wide
+-- the cost and the right side of the claim were made, and its left side was written; or a step was too wide
 abbrev pub GivesCost : Result (Fraction × (List ℤ × ℤ)) Wide → Result (Fraction × ℤ) Wide → List ℤ → Type 0
 GivesCost (Ok made) result left = (result ≡ Ok (made.0, made.1.1)) × (left ≡ made.1.0)
 GivesCost (Err w) result left = result ≡ Err w

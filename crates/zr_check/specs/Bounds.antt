@@ -3,15 +3,16 @@ use Rattle.std.specs.Prelude.{◌≡◌, ℕ, ◌+◌, ℤ, pos, negsuc, Some, I
 use Rattle.zr_base.specs.declared.step.Wide.{Wide}
 use Rattle.zr_base.specs.Steps.{◌>>=◌}
 use Rattle.zr_base.specs.Fractions.{Fraction}
+use Rattle.zr_base.specs.Lowest.{add_of}
+use Rattle.zr_base.specs.Made.{made_from}
 use Rattle.zr_game.specs.Players.{GameOf, PlayerOf}
-use Rattle.zr_game.specs.Leaves.{Bound, root_leaf}
+use Rattle.zr_game.specs.Leaves.{Bound, bound_with, root_leaf}
 use Rattle.zr_tree.specs.Nodes.{NodeOf}
 use Rattle.zr_tree.specs.Trees.{TreeOf, preorder}
 use Rattle.zr_tree.specs.Steps.{IsRefusedAt, Passes}
 use Rattle.zr_tree.specs.declared.fault.Fault.{Fault}
 use Rattle.zr_tree.specs.declared.fault.Fault.TheVariants as nodes
-use Rattle.zr_mix.specs.Checks.{claim_row}
-use Rattle.zr_mix.specs.Steps.{claim_steps, made_from, place_of, slope_steps, value_steps}
+use Rattle.zr_mix.specs.Steps.{claim_steps, place_of, rest_steps, slope_steps, value_steps}
 use Rattle.zr_cert.specs.declared.fault.CertFault.{CertFault}
 use Rattle.zr_cert.specs.declared.fault.CertFault.TheVariants.{Bad, Wide as TooWide}
 use Rattle.zr_cert.specs.Certs.{BoundOf, MixtureOf}
@@ -32,19 +33,22 @@ all_means (player ∷ players) (m ∷ mixtures) = do
 abbrev pub own_means : GameOf → PlayerOf → ℕ → List Fraction → List Fraction
 own_means game player i means = take (length player.vars) (drop (place_of game i 0) means)
 
--- the value and the claim of player i at these means
+-- the cost and the claim of player i at these means: the cost is the value along the slope and the rest, and the claim is
+-- that of the slope and the value
 abbrev pub cost_steps : GameOf → PlayerOf → ℕ → List Fraction → Result (Fraction × (List ℤ × ℤ)) Wide
 cost_steps game player i means = do
   slope ← made_from (slope_steps game player means) 0 (length player.vars)
   value ← value_steps slope (own_means game player i means)
+  rest ← rest_steps game player means
+  cost ← add_of value rest
   claim ← claim_steps slope value
-  Ok (value, claim)
+  Ok (cost, claim)
 
--- the line's sums: the value, and the two sides of the claim
-pub record IsCostMade (game : GameOf) (mixtures : List MixtureOf) (i : ℕ) (player : PlayerOf) (value : Fraction) (left : List ℤ) (right : ℤ) : Type 0 where
+-- the line's sums: the cost, and the two sides of the claim
+pub record IsCostMade (game : GameOf) (mixtures : List MixtureOf) (i : ℕ) (player : PlayerOf) (cost : Fraction) (left : List ℤ) (right : ℤ) : Type 0 where
   pub means : List Fraction
   pub are_means : all_means game mixtures ≡ Ok means
-  pub made : cost_steps game player i means ≡ Ok (value, (left, right))
+  pub made : cost_steps game player i means ≡ Ok (cost, (left, right))
 
 -- a step of the line is too wide
 abbrev pub IsWideCost : GameOf → List MixtureOf → ℕ → PlayerOf → Type 0
@@ -64,17 +68,17 @@ abbrev pub TreeRefused : PlayerOf → Bound → List NodeOf → ℕ → CertFaul
 TreeRefused player row nodes line fault =
     (t : TreeOf) × (first : Fault) × (preorder t ≡ nodes) × IsRefusedAt player row 0 (root_leaf player) t first × (fault ≡ at_line line first)
 
--- the value is the printed cost, and the tree passes for the claim
+-- the cost is the printed one, and the tree passes for the claim
 abbrev pub BoundPasses : GameOf → List MixtureOf → ℕ → PlayerOf → BoundOf → Type 0
 BoundPasses game mixtures i player bound =
-    (left : List ℤ) × (right : ℤ) × IsCostMade game mixtures i player bound.cost left right × TreePasses player (claim_row left right) bound.tree
+    (left : List ℤ) × (right : ℤ) × IsCostMade game mixtures i player bound.cost left right × TreePasses player (bound_with left right) bound.tree
 
--- a step of the cost line is too wide, its value isn't the printed cost, or the tree is refused
+-- a step of the cost line is too wide, its cost isn't the printed one, or the tree is refused
 abbrev pub BoundRefused : GameOf → List MixtureOf → ℕ → ℕ → PlayerOf → BoundOf → CertFault → Type 0
 BoundRefused game mixtures line i player bound fault =
     (IsWideCost game mixtures i player × (fault ≡ TooWide line))
     ⊎ ((value : Fraction) × (left : List ℤ) × (right : ℤ) × IsCostMade game mixtures i player value left right × (value ≡ bound.cost → ⊥) × (fault ≡ Bad line))
-    ⊎ ((left : List ℤ) × (right : ℤ) × IsCostMade game mixtures i player bound.cost left right × TreeRefused player (claim_row left right) bound.tree (line + 1) fault)
+    ⊎ ((left : List ℤ) × (right : ℤ) × IsCostMade game mixtures i player bound.cost left right × TreeRefused player (bound_with left right) bound.tree (line + 1) fault)
 
 -- the cost line of player i
 abbrev pub cost_line : List MixtureOf → List BoundOf → ℕ → ℕ
@@ -97,4 +101,4 @@ BoundsRefused game mixtures bounds fault = FirstRefused (CostPasses game mixture
 
 -- the row `0 <= -1`, which no point meets
 abbrev pub no_point : PlayerOf → Bound
-no_point player = claim_row (replicate (length player.vars) (pos 0)) (negsuc 0)
+no_point player = bound_with (replicate (length player.vars) (pos 0)) (negsuc 0)

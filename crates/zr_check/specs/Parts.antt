@@ -2,6 +2,7 @@
 use Rattle.std.specs.Prelude.{◌≡◌, ℕ, suc, ◌+◌, ℤ, pos, Some, IsErr, IsSome, Result, List, length, map, slice_get, take, ◌⊎◌}
 use Rattle.zr_base.specs.declared.step.Wide.{Wide}
 use Rattle.zr_base.specs.Fractions.{Fraction}
+use Rattle.zr_base.specs.Made.{made_from}
 use Rattle.zr_base.specs.Sums.{sum_steps}
 use Rattle.zr_game.specs.Players.{GameOf, PlayerOf}
 use Rattle.zr_game.specs.Feasible.{IsFeasible}
@@ -9,7 +10,7 @@ use Rattle.zr_game.specs.FeasibleSteps.{feasible_wide}
 use Rattle.zr_game.specs.Profiles.{Part, Strategy, total}
 use Rattle.zr_game.specs.declared.kind.Kind.{Kind}
 use Rattle.zr_game.specs.declared.kind.Kind.TheVariants.{Pure}
-use Rattle.zr_mix.specs.Steps.{made_from, mean_steps}
+use Rattle.zr_mix.specs.Steps.{mean_steps}
 use Rattle.zr_cert.specs.declared.fault.CertFault.{CertFault}
 use Rattle.zr_cert.specs.declared.fault.CertFault.TheVariants.{Bad, Wide as TooWide}
 use Rattle.zr_cert.specs.Certs.{MixtureOf}

@@ -1,52 +1,37 @@
 -- When a certificate is right.
 use Rattle.std.specs.Prelude.{◌≡◌, ℕ, ℤ, Some, List, length, slice_get}
 use Rattle.std.specs.List.{All}
-use Rattle.zr_base.specs.Fractions.{HaveSameCross}
+use Rattle.zr_base.specs.Fractions.{IsSame}
 use Rattle.zr_game.specs.Players.{GameOf, PlayerOf}
 use Rattle.zr_game.specs.Forms.{IsPlayer}
-use Rattle.zr_game.specs.Leaves.{Bound, LeafOf, above, below, decided, root_leaf, slots}
+use Rattle.zr_game.specs.Leaves.{Bound, bound_with, root_leaf}
 use Rattle.zr_game.specs.Profiles.{IsOfKind, IsProfile, Profile, expected_cost, total}
 use Rattle.zr_game.specs.declared.kind.Kind.{Kind}
-use Rattle.zr_game.specs.declared.leaf.Side.TheVariants.{VarZero, RowZero}
-use Rattle.zr_tree.specs.Form.{IsTree}
 use Rattle.zr_tree.specs.Nodes.{NodeOf}
-use Rattle.zr_tree.specs.Trees.{TreeOf, Split, Choose, Proof, Known, Loose, preorder}
-use Rattle.zr_tree.specs.Right.{ArePresent, IsOpenPair, IsRefuting, IsRight, IsWholeVar}
-use Rattle.zr_mix.specs.Checks.{IsClaimOf, claim_row}
+use Rattle.zr_tree.specs.Trees.{TreeOf, preorder}
+use Rattle.zr_tree.specs.Right.{IsRefuted, IsRight}
+use Rattle.zr_mix.specs.Checks.{IsClaimOf}
 use Rattle.zr_cert.specs.Certs.{BoundOf, CertOf, EmptyVerdict, MixtureOf, ProfileVerdict, VerdictOf, profile_with}
 
--- the nodes are a whole tree, with multipliers of at least 1, that proves the row on all points of the player
-pub record ProvesRow (player : PlayerOf) (row : Bound) (nodes : List NodeOf) : Type 0 where
-  pub whole : IsTree nodes
+-- the nodes are those of a tree that proves the row on all points of the player
+pub record IsRowTree (player : PlayerOf) (row : Bound) (nodes : List NodeOf) : Type 0 where
   pub tree : TreeOf
   pub listed : preorder tree ≡ nodes
   pub right : IsRight player row (root_leaf player) tree
 
--- the tree shows that the leaf has no point: by splits, choices, and leaves that are refuted
-abbrev pub IsRefuted : PlayerOf → LeafOf → TreeOf → Type 0
-IsRefuted player leaf (Split v at first second) =
-    IsWholeVar player v × IsRefuted player (below leaf v at) first × IsRefuted player (above leaf v at) second
-IsRefuted player leaf (Choose p first second) =
-    IsOpenPair player leaf p × IsRefuted player (decided leaf p VarZero) first × IsRefuted player (decided leaf p RowZero) second
-IsRefuted player leaf (Proof scale mult) =
-    ArePresent (slots player leaf) mult × IsRefuting player scale (slots player leaf) mult
-IsRefuted player leaf (Known x) = ⊥
-IsRefuted player leaf Loose = ⊥
-
--- the nodes are a whole tree, with multipliers of at least 1, that shows that the player has no point
-pub record ProvesEmpty (player : PlayerOf) (nodes : List NodeOf) : Type 0 where
-  pub whole : IsTree nodes
+-- the nodes are those of a tree that shows that the player has no point
+pub record IsEmptyTree (player : PlayerOf) (nodes : List NodeOf) : Type 0 where
   pub tree : TreeOf
   pub listed : preorder tree ≡ nodes
   pub refuted : IsRefuted player (root_leaf player) tree
 
 -- the printed cost is the expected cost of player i, and the tree proves its claim
 pub record IsRightBound (player : PlayerOf) (i : ℕ) (profile : Profile) (bound : BoundOf) : Type 0 where
-  pub cost : HaveSameCross bound.cost (expected_cost player i profile)
+  pub cost : IsSame bound.cost (expected_cost player i profile)
   pub left : List ℤ
   pub right : ℤ
   pub claim : IsClaimOf player i profile left right
-  pub proof : ProvesRow player (claim_row left right) bound.tree
+  pub proof : IsRowTree player (bound_with left right) bound.tree
 
 -- feasible strategies of the kind, with the printed totals
 pub record AreRightStrategies (game : GameOf) (kind : Kind) (mixtures : List MixtureOf) : Type 0 where
@@ -62,7 +47,7 @@ pub record IsRightProfile (game : GameOf) (kind : Kind) (mixtures : List Mixture
 
 abbrev pub IsRightVerdict : GameOf → Kind → VerdictOf → Type 0
 IsRightVerdict game kind (ProfileVerdict mixtures bounds) = IsRightProfile game kind mixtures bounds
-IsRightVerdict game kind (EmptyVerdict i nodes) = (player : PlayerOf) × IsPlayer game i player × ProvesEmpty player nodes
+IsRightVerdict game kind (EmptyVerdict i nodes) = (player : PlayerOf) × IsPlayer game i player × IsEmptyTree player nodes
 
 -- the certificate is for as many players as the game has, and its verdict is right
 pub record IsRightCert (game : GameOf) (c : CertOf) : Type 0 where

@@ -3,12 +3,11 @@ use Rattle.std.specs.Prelude.{◌≡◌, ℕ, ℤ, Some, List, slice_get, ◌⊎
 use Rattle.zr_base.specs.Fractions.{Fraction}
 use Rattle.zr_game.specs.Players.{GameOf, PlayerOf}
 use Rattle.zr_game.specs.Forms.{IsPlayer}
-use Rattle.zr_game.specs.Leaves.{Bound, root_leaf}
+use Rattle.zr_game.specs.Leaves.{Bound, bound_with, root_leaf}
 use Rattle.zr_game.specs.Profiles.{Part}
 use Rattle.zr_tree.specs.Nodes.{NodeOf}
 use Rattle.zr_tree.specs.Trees.{TreeOf, preorder}
 use Rattle.zr_tree.specs.Steps.{HasWideProof}
-use Rattle.zr_mix.specs.Checks.{claim_row}
 use Rattle.zr_cert.specs.Certs.{BoundOf, CertOf, EmptyVerdict, MixtureOf, ProfileVerdict, VerdictOf}
 use Rattle.zr_check.specs.Parts.{IsWidePart}
 use Rattle.zr_check.specs.Bounds.{IsCostMade, IsWideCost, no_point}
@@ -44,7 +43,7 @@ pub record HasWideTree (game : GameOf) (mixtures : List MixtureOf) (bounds : Lis
   pub left : List ℤ
   pub right : ℤ
   pub made : IsCostMade game mixtures i player value left right
-  pub wide : IsWideTree player (claim_row left right) bound.tree
+  pub wide : IsWideTree player (bound_with left right) bound.tree
 
 abbrev pub VerdictIsWide : GameOf → VerdictOf → Type 0
 VerdictIsWide game (ProfileVerdict mixtures bounds) = HasWidePart game mixtures ⊎ HasWideCost game mixtures ⊎ HasWideTree game mixtures bounds

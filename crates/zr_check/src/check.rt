@@ -6,9 +6,9 @@ ghost use Rattle.zr_cert.specs.Certs.{EmptyVerdict, ProfileVerdict, bound_of, mi
 ghost use Rattle.zr_cert.specs.Forms.{IsMixtureForm, IsVerdictForm};
 ghost use Rattle.zr_cert.specs.Lines.{mixture_lines, sum_lines, verdict_lines};
 ghost use Rattle.zr_cert.specs.Listed.{cert_of};
-ghost use Rattle.zr_check.specs.Right.{IsRightCert};
+ghost use Rattle.zr_check.specs.Right.{IsRightCert, IsRightHead};
 ghost use Rattle.zr_check.specs.Truth.{IsTrueVerdict};
-ghost use Rattle.zr_check.specs.WideSteps.{HasWideStep};
+ghost use Rattle.zr_check.specs.WideSteps.{HasWideStep, HeadIsWide};
 ghost use Rattle.zr_check.specs.Rooms.{HasRoom};
 ghost use Rattle.zr_check.specs.Parts.{StrategiesPass, StrategiesRefused};
 ghost use Rattle.zr_check.specs.Checks.{CertPasses, CertRefused, HeadPasses, HeadRefused, VerdictPasses, VerdictRefused};
@@ -62,6 +62,8 @@ pub fn check_profile(game: &Game, cert: &Cert, room: &mut Room) -> Result<(), Ce
     requires { HasRoom (game_of game.now) (cert_of cert.now) room.old }
     ensures ok { OnOk result (HeadPasses (game_of game.now) (cert_of cert.now)) }
     ensures err { IfErr result (HeadRefused (game_of game.now) (cert_of cert.now)) }
+    ensures exact { IsOk result ↔ ((cert.now.players ≡ length (game_of game.now)) × IsRightHead (game_of game.now) cert.now.kind (verdict_of cert.now.verdict)
+        × (HeadIsWide (game_of game.now) (verdict_of cert.now.verdict) → ⊥)) }
     ensures room { room.new ≡ room.old }
 {
     if cert.players as usize != game.players.len() {

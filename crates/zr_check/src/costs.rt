@@ -4,7 +4,7 @@ ghost use Rattle.zr_game.specs.Players.{PlayerOf};
 ghost use Rattle.zr_game.specs.Games.{game_of};
 ghost use Rattle.zr_game.specs.Forms.{IsPlayer};
 ghost use Rattle.zr_tree.specs.Scratches.{most_pairs, most_vars};
-ghost use Rattle.zr_mix.specs.Checks.{claim_row};
+ghost use Rattle.zr_game.specs.Leaves.{bound_with};
 ghost use Rattle.zr_mix.specs.Steps.{var_total};
 ghost use Rattle.zr_cert.specs.Certs.{MixtureOf, bound_of, nodes_of};
 ghost use Rattle.zr_cert.specs.Lines.{bound_lines, mixture_lines, sum_lines};
@@ -15,7 +15,7 @@ use crate::room::{Bench, place, var_count};
 use zr_base::{Frac, Wide};
 use zr_cert::{Bound, CertFault};
 use zr_game::Game;
-use zr_mix::{claim, slope, value};
+use zr_mix::{claim, rest, slope, value};
 use zr_tree::{Fault, Scratch, Tree, bounds};
 
 /// Tests the cost lines and the nodes of their trees, the first of which is `line`, where `means`
@@ -92,7 +92,7 @@ fn is_same(cost: Frac, printed: Frac) -> bool
     cost == printed
 }
 
-/// The value of player `i` at the means, and the right side of its claim, whose left side is put
+/// The cost of player `i` at the means, and the right side of its claim, whose left side is put
 /// into the first places of `left`. `slopes` is room for a number per variable.
 fn make_claim(
     game: &Game,
@@ -125,8 +125,9 @@ fn write_claim(
     ensures { (player : PlayerOf) → IsPlayer (game_of game.now) i player → GivesCost (cost_steps (game_of game.now) player i means.now) result left.new }
 {
     slope(game, i, means, slopes)?;
-    let cost = value(slopes, own_means(game, i, means))?;
-    let right = claim(slopes, cost, left)?;
+    let value = value(slopes, own_means(game, i, means))?;
+    let cost = value.add(rest(game, i, means)?)?;
+    let right = claim(slopes, value, left)?;
     Ok((cost, right))
 }
 
@@ -159,8 +160,8 @@ pub(crate) fn check_tree(
     requires columns { most_vars (game_of game.now) ≤ scratch.old.columns }
     requires vars { most_vars (game_of game.now) ≤ scratch.old.vars }
     requires pairs { most_pairs (game_of game.now) ≤ scratch.old.pairs }
-    ensures ok { (player : PlayerOf) → IsPlayer (game_of game.now) i player → OnOk result (TreePasses player (claim_row left.now right) (nodes_of tree.now)) }
-    ensures err { (player : PlayerOf) → IsPlayer (game_of game.now) i player → IfErr result (TreeRefused player (claim_row left.now right) (nodes_of tree.now) line) }
+    ensures ok { (player : PlayerOf) → IsPlayer (game_of game.now) i player → OnOk result (TreePasses player (bound_with left.now right) (nodes_of tree.now)) }
+    ensures err { (player : PlayerOf) → IsPlayer (game_of game.now) i player → IfErr result (TreeRefused player (bound_with left.now right) (nodes_of tree.now) line) }
     ensures places { scratch.new ≡ scratch.old }
 {
     match bounds(game, i, tree, left, right, scratch) {

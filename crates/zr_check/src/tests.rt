@@ -3,7 +3,7 @@ use smallvec::SmallVec;
 use std::alloc::Global;
 use std::test::Fail;
 use zr_base::{Frac, Point, Row};
-use zr_game::{CrossTerm, Game, Kind, Player, Var};
+use zr_game::{CrossTerm, Game, Kind, Other, Player, Var};
 use zr_mix::{Part, Profile, Strategy};
 use zr_tree::{Node, Tree};
 
@@ -21,6 +21,7 @@ fn player(
         vars.push(Var {
             name: String::new(alloc),
             whole: true,
+            low: Some(0),
             up,
         })?;
     }
@@ -31,6 +32,7 @@ fn player(
         pairs: Vec::new(alloc),
         cost: SmallVec::from_slice(alloc, cost)?,
         cross: Vec::from_slice(alloc, cross)?,
+        others: Vec::new(alloc),
     })
 }
 
@@ -62,6 +64,20 @@ fn game(players: Vec<Player>) -> Result<Game, Fail> {
 fn pennies(alloc: Global) -> Result<Game, Fail> {
     let none = Vec::new(alloc);
     let first = player(alloc, 1, Some(1), none, &[(0, -2)], &[shared(0, 1, 4)])?;
+    let none = Vec::new(alloc);
+    let second = player(alloc, 1, Some(1), none, &[(0, 2)], &[shared(0, 0, -4)])?;
+    game(vec![in alloc; first, second]?)
+}
+
+/// The same, where the first pays `6y` besides.
+fn taxed(alloc: Global) -> Result<Game, Fail> {
+    let none = Vec::new(alloc);
+    let mut first = player(alloc, 1, Some(1), none, &[(0, -2)], &[shared(0, 1, 4)])?;
+    first.others.push(Other {
+        first: (1, 0),
+        second: None,
+        coef: 6,
+    })?;
     let none = Vec::new(alloc);
     let second = player(alloc, 1, Some(1), none, &[(0, 2)], &[shared(0, 0, -4)])?;
     game(vec![in alloc; first, second]?)
@@ -284,6 +300,17 @@ fn costs_of_matching_pennies(rt: HostRuntime) -> Result<(), Fail> {
     assert_eq!(rt; made, (Err(Wide(10)), Ok(())));
     let made = mixed(rt.alloc(), &game, &[ONE, ONE], &[TOO_LOW, FREE])?;
     assert_eq!(rt; made, (Err(Bad(9)), Ok(())));
+    Ok(())
+}
+
+#[test]
+fn costs_in_others_variables(rt: HostRuntime) -> Result<(), Fail> {
+    let game = taxed(rt.alloc())?;
+    let three: Cost = (3, 1, &[Line::Leaf(1, &[])]);
+    let made = mixed(rt.alloc(), &game, &[FAIR, FAIR], &[three, FREE])?;
+    assert_eq!(rt; made, (Ok(()), Ok(())));
+    let made = mixed(rt.alloc(), &game, &[FAIR, FAIR], &[FREE, FREE])?;
+    assert_eq!(rt; made, (Err(CertFault::Bad(10)), Ok(())));
     Ok(())
 }
 

@@ -6,7 +6,7 @@ use Rattle.zr_game.specs.Games.{game_of}
 use Rattle.zr_game.specs.Players.{PlayerOf, player_of}
 use Rattle.zr_game.proofs.Items.{at_number}
 use Rattle.zr_tree.proofs.Greatest.{at_most_greatest}
-use Rattle.zr_mix.specs.Checks.{claim_row}
+use Rattle.zr_game.specs.Leaves.{bound_with}
 use Rattle.zr_cert.specs.Certs.{nodes_of}
 use Rattle.zr_check.specs.Bounds.{TreePasses, TreeRefused}
 use Rattle.zr_check.proofs.check.check_empty.Goals as goal
@@ -52,10 +52,10 @@ pub returns-clause-ok : goal.returns-clause-ok
 returns-clause-ok c kind =
     let at = (goal.at.returns-clause-ok c).After-deref in
     let who = the_player at in
-    on_ok_weaker c.check_tree.result (λ passes. (who.0, who.1, subst (λ (xs : List ℤ). TreePasses who.0 (claim_row xs (negsuc 0)) (nodes_of c.args.tree.now)) (row at who.0 who.1) passes)) (c.check_tree.ensures.ok who.0 who.1)
+    on_ok_weaker c.check_tree.result (λ passes. (who.0, who.1, subst (λ (xs : List ℤ). TreePasses who.0 (bound_with xs (negsuc 0)) (nodes_of c.args.tree.now)) (row at who.0 who.1) passes)) (c.check_tree.ensures.ok who.0 who.1)
 
 pub returns-clause-err : goal.returns-clause-err
 returns-clause-err c kind =
     let at = (goal.at.returns-clause-err c).After-deref in
     let who = the_player at in
-    MatchResult-weaker c.check_tree.result (c.check_tree.ensures.err who.0 who.1) (λ u h. h) (λ fault refused. inr (who.0, who.1, subst (λ (xs : List ℤ). TreeRefused who.0 (claim_row xs (negsuc 0)) (nodes_of c.args.tree.now) 4 fault) (row at who.0 who.1) refused))
+    MatchResult-weaker c.check_tree.result (c.check_tree.ensures.err who.0 who.1) (λ u h. h) (λ fault refused. inr (who.0, who.1, subst (λ (xs : List ℤ). TreeRefused who.0 (bound_with xs (negsuc 0)) (nodes_of c.args.tree.now) 4 fault) (row at who.0 who.1) refused))

@@ -8,7 +8,7 @@ use Rattle.zr_game.specs.Games.{game_of}
 use Rattle.zr_game.specs.Players.{PlayerOf}
 use Rattle.zr_game.proofs.Items.{at_number}
 use Rattle.zr_tree.proofs.Greatest.{at_most_greatest}
-use Rattle.zr_mix.specs.Checks.{claim_row}
+use Rattle.zr_game.specs.Leaves.{bound_with}
 use Rattle.zr_cert.specs.Certs.{bound_of, nodes_of}
 use Rattle.zr_check.specs.Bounds.{TreePasses, TreeRefused}
 use Rattle.zr_check.proofs.BoundSteps.{bound_passes, bound_refused, other_cost}
@@ -55,11 +55,11 @@ returns-clause-ok c player is mixtures are =
     let at = (goal.at.returns-clause-ok c).After-deref in
     let f : FitsSigned w128 c.in-Ok.made.1 = search rules in
     let told = simp to_z-of_z at (c.check_tree.ensures.ok player is) in
-    on_ok_weaker c.check_tree.result (λ passes. bound_passes (game_of c.args.game.now) mixtures c.args.means.now are c.args.i player (bound_of c.args.bound.now) c.args.line c.in-Ok.made.0 (take (length player.vars) c.make_claim.new.left) c.in-Ok.made.1 (c.in-Ok.ensures player is) (c.if-not-is_same.ensures.0 refl) (subst (λ (xs : List ℤ). TreePasses player (claim_row xs c.in-Ok.made.1) (nodes_of c.args.bound.now.tree)) (row at player is) passes)) told
+    on_ok_weaker c.check_tree.result (λ passes. bound_passes (game_of c.args.game.now) mixtures c.args.means.now are c.args.i player (bound_of c.args.bound.now) c.args.line c.in-Ok.made.0 (take (length player.vars) c.make_claim.new.left) c.in-Ok.made.1 (c.in-Ok.ensures player is) (c.if-not-is_same.ensures.0 refl) (subst (λ (xs : List ℤ). TreePasses player (bound_with xs c.in-Ok.made.1) (nodes_of c.args.bound.now.tree)) (row at player is) passes)) told
 
 pub returns-clause-err : goal.returns-clause-err
 returns-clause-err c player is mixtures are =
     let at = (goal.at.returns-clause-err c).After-deref in
     let f : FitsSigned w128 c.in-Ok.made.1 = search rules in
     let told = simp to_z-of_z at (c.check_tree.ensures.err player is) in
-    MatchResult-weaker c.check_tree.result told (λ u h. h) (λ fault refused. bound_refused (game_of c.args.game.now) mixtures c.args.means.now are c.args.i player (bound_of c.args.bound.now) c.args.line c.in-Ok.made.0 (take (length player.vars) c.make_claim.new.left) c.in-Ok.made.1 (c.in-Ok.ensures player is) (c.if-not-is_same.ensures.0 refl) fault (subst (λ (xs : List ℤ). TreeRefused player (claim_row xs c.in-Ok.made.1) (nodes_of c.args.bound.now.tree) (c.args.line + 1) fault) (row at player is) refused))
+    MatchResult-weaker c.check_tree.result told (λ u h. h) (λ fault refused. bound_refused (game_of c.args.game.now) mixtures c.args.means.now are c.args.i player (bound_of c.args.bound.now) c.args.line c.in-Ok.made.0 (take (length player.vars) c.make_claim.new.left) c.in-Ok.made.1 (c.in-Ok.ensures player is) (c.if-not-is_same.ensures.0 refl) fault (subst (λ (xs : List ℤ). TreeRefused player (bound_with xs c.in-Ok.made.1) (nodes_of c.args.bound.now.tree) (c.args.line + 1) fault) (row at player is) refused))

@@ -2,12 +2,11 @@ use Rattle.std.proofs.Common.{rules, arith, ap, length, map, FitsSigned}
 use Rattle.std.specs.Int.{w128}
 use Rattle.std.proofs.lemmas.Int.{to_z-of_z}
 use Rattle.zr_game.specs.Games.{game_of}
-use Rattle.zr_game.specs.Leaves.{root_leaf}
+use Rattle.zr_game.specs.Leaves.{bound_with, root_leaf}
 use Rattle.zr_game.proofs.Items.{at_number}
 use Rattle.zr_tree.specs.Nodes.{node_of}
 use Rattle.zr_tree.proofs.Forests.{tree_of}
 use Rattle.zr_tree.proofs.Greatest.{at_most_greatest}
-use Rattle.zr_mix.specs.Checks.{claim_row}
 use Rattle.zr_check.proofs.BoundSteps.{fault_within, size_listed}
 use Rattle.zr_check.proofs.costs.check_tree.Goals as goal
 
@@ -22,7 +21,7 @@ at_line-requires c =
     let who = at_number (game_of c.args.game.now) c.args.i c.requires.number in
     let t = tree_of (map node_of c.args.tree.now.nodes.items) c.args.tree.now.whole.whole in
     let e = simp to_z-of_z at c.in-Err.ensures.err in
-    let w = fault_within who.0 (claim_row c.args.left.now c.args.right) 0 (root_leaf who.0) t.0 c.in-Err.fault (e who.0 who.1 t.0 t.1) in
+    let w = fault_within who.0 (bound_with c.args.left.now c.args.right) 0 (root_leaf who.0) t.0 c.in-Err.fault (e who.0 who.1 t.0 t.1) in
     let s = size_listed t.0 in
     let l = ap length t.1 in
     omega (arith, w, s, l, c.requires.lines)

@@ -10,8 +10,9 @@ use Rattle.zr_game.specs.Forms.{IsPlayer}
 use Rattle.zr_game.specs.Players.{PlayerOf}
 use Rattle.zr_game.proofs.Items.{found, one, read_below}
 use Rattle.zr_mix.specs.Mixtures.{part_of, parts_of}
-use Rattle.zr_mix.specs.Steps.{made_from, mean_steps}
-use Rattle.zr_mix.proofs.Lists.{were_ok, were_wide}
+use Rattle.zr_base.specs.Made.{made_from}
+use Rattle.zr_mix.specs.Steps.{mean_steps}
+use Rattle.zr_base.proofs.Made.{were_ok, were_wide}
 use Rattle.zr_cert.specs.Certs.{mixture_of}
 use Rattle.zr_check.specs.Parts.{IsWidePart}
 use Rattle.zr_check.specs.PartSums.{IsPartMade}
