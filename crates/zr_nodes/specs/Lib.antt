@@ -1,0 +1,5 @@
+pub mod Lists
+pub mod Forests
+pub mod Places
+pub mod Kin
+pub mod Whole
