@@ -8,7 +8,7 @@ use Rattle.zr_basis.specs.Programs.{Program}
 use Rattle.zr_basis.specs.BasicForms.{value_column, right_column, IsBasicForm}
 use Rattle.zr_basis.specs.Vectors.{IsLeading, IsLower}
 use Rattle.zr_basis.specs.Primal.{vector, IsPrimalDue}
-use Rattle.zr_basis.specs.Dual.{IsRay, IsDualDue}
+use Rattle.zr_basis.specs.Dual.{IsRay, IsRayBelow, IsDualDue}
 use Rattle.zr_basis.proofs.Signs.{sign, side}
 use Rattle.zr_basis.proofs.Vectors.{IsNought, never_both, in_proportion, three_ways, lower_trans, lower_apart}
 use Rattle.zr_basis.proofs.Solved.{direction}
@@ -53,54 +53,51 @@ lower_alike : (p : Program) (basis : ℕ → ℕ) (form : ℕ → ℕ → ℤ) �
 lower_alike p basis form basic k l s t y v e f ray_y ray_v x u d c ray_x ray_u lower = in_proportion (value_column p) (λ j. u j *ℤ (f *ℤ s) -ℤ v j *ℤ (c *ℤ t)) (λ j. x j *ℤ (e *ℤ s) -ℤ y j *ℤ (d *ℤ t)) (d *ℤ e) (c *ℤ f) (mul_positive d e ray_x.0 ray_y.0) (mul_positive c f ray_u.0 ray_v.0) (λ j h. scaled_gap (x j) (y j) (u j) (v j) d e c f s t (proportional (x j) (u j) d c (same_ray p basis form basic l (pos 1) x u d c ray_x ray_u j h)) (proportional (y j) (v j) e f (same_ray p basis form basic k (pos 1) y v e f ray_y ray_v j h))) lower
 
 module _ (p : Program) (basis : ℕ → ℕ) (form : ℕ → ℕ → ℤ) (basic : IsBasicForm p basis form) (row : ℕ) (below : row < p.rows) where
-  Marked : ℕ → Type 0
+  abbrev pub Marked : ℕ → Type 0
   Marked k = (k < value_column p) × (form row k <ℤ (pos 0))
 
-  Below : ℕ → ℕ → Type 0
-  Below k l = (y : ℕ → ℤ) (e : ℤ) → IsRay p basis form k y e → (x : ℕ → ℤ) (d : ℤ) → IsRay p basis form l x d → IsLower (value_column p) y (e *ℤ neg_ℤ (form row k)) x (d *ℤ neg_ℤ (form row l))
+  abbrev pub Below : ℕ → ℕ → Type 0
+  Below k l = IsRayBelow p basis form row k l
 
   ray_of : (k : ℕ) → Marked k → (x : ℕ → ℤ) × (d : ℤ) × IsRay p basis form k x d
-  unfolding Marked
   ray_of k (h, under) = direction p basis form basic k (h, free_under p basis form basic row k below under)
 
   marks : (k : ℕ) → Marked k ⊎ (Marked k → ⊥)
-  unfolding Marked
   marks k = ⊎_elim (λ (h : k < value_column p). ⊎_elim (λ (a : (pos 0) <ℤ neg_ℤ (form row k)). inl (h, omega (arith, ints, a))) (λ (n : (pos 0) <ℤ neg_ℤ (form row k) → ⊥). inr (λ m. n (let b = m.1 in omega (arith, ints, b)))) (above_or (neg_ℤ (form row k)))) (λ (h : value_column p ≤ k). inr (λ m. let b = m.0 in omega (arith, b, h))) (side k (value_column p))
 
   decides : (k l : ℕ) → Marked k → Marked l → Below k l ⊎ (Below k l → ⊥)
-  unfolding Below
   decides k l m n = by (ray_of k m) (ray_of l n)
     where
       by : (y : ℕ → ℤ) × (e : ℤ) × IsRay p basis form k y e → (x : ℕ → ℤ) × (d : ℤ) × IsRay p basis form l x d → Below k l ⊎ (Below k l → ⊥)
       by (y, e, ray_y) (x, d, ray_x) = ⊎_elim (λ (a : IsLower (value_column p) y (e *ℤ neg_ℤ (form row k)) x (d *ℤ neg_ℤ (form row l))). inl (λ v f ray_v u c ray_u. lower_alike p basis form basic k l (neg_ℤ (form row k)) (neg_ℤ (form row l)) y v e f ray_y ray_v x u d c ray_x ray_u a)) (λ (never : IsLower (value_column p) y (e *ℤ neg_ℤ (form row k)) x (d *ℤ neg_ℤ (form row l)) → ⊥). inr (λ all. never (all y e ray_y x d ray_x))) (leading_or (value_column p) (λ j. x j *ℤ (e *ℤ neg_ℤ (form row k)) -ℤ y j *ℤ (d *ℤ neg_ℤ (form row l))))
 
   up : (k : ℕ) → Marked k → (d : ℤ) → (pos 0) <ℤ d → (pos 0) <ℤ (d *ℤ neg_ℤ (form row k))
-  unfolding Marked
   up k m d h = mul_positive d (neg_ℤ (form row k)) h (let b = m.1 in omega (arith, ints, b))
 
-  chain : (k l m : ℕ) → Marked k → Marked l → Marked m → Below k l → Below l m → Below k m
-  unfolding Below
+  pub chain : (k l m : ℕ) → Marked k → Marked l → Marked m → Below k l → Below l m → Below k m
   chain k l m a b c first second y e ray_y x d ray_x = by (ray_of l b)
     where
       by : (v : ℕ → ℤ) × (f : ℤ) × IsRay p basis form l v f → IsLower (value_column p) y (e *ℤ neg_ℤ (form row k)) x (d *ℤ neg_ℤ (form row m))
       by (v, f, ray_v) =
           lower_trans (value_column p) y v x (e *ℤ neg_ℤ (form row k)) (f *ℤ neg_ℤ (form row l)) (d *ℤ neg_ℤ (form row m)) (up k a e ray_y.0) (up l b f ray_v.0) (up m c d ray_x.0) (first y e ray_y v f ray_v) (second v f ray_v x d ray_x)
 
-  self : (k : ℕ) → Marked k → Below k k → ⊥
-  unfolding Below
+  pub self : (k : ℕ) → Marked k → Below k k → ⊥
   self k m below = by (ray_of k m)
     where
       by : (y : ℕ → ℤ) × (e : ℤ) × IsRay p basis form k y e → ⊥
       by (y, e, ray) =
           lower_apart (value_column p) y y (e *ℤ neg_ℤ (form row k)) (e *ℤ neg_ℤ (form row k)) (λ j h. refl) (below y e ray y e ray)
 
+  -- a column whose direction none is below is the one that the dual rule takes
+  pub due_if_least : (r : ℕ) → Marked r → form row (right_column p) <ℤ (pos 0) → ((i : ℕ) → i < value_column p → Marked i → Below i r → ⊥) → IsDualDue p basis form row r
+  due_if_least r m right all = with_ray (ray_of r m)
+    where
+      with_ray : (x : ℕ → ℤ) × (d : ℤ) × IsRay p basis form r x d → IsDualDue p basis form row r
+      with_ray (x, d, ray) = record { below = below; column = m.0; right = right; under = m.1; ray = x; over = d; is_ray = ray; least = λ i free b y e ray_y lower. all i free.0 (free.0, b) (λ v f ray_v u c ray_u. lower_alike p basis form basic i r (neg_ℤ (form row i)) (neg_ℤ (form row r)) y v e f ray_y ray_v x u d c ray ray_u lower) }
+
   -- where a right side is below zero, and so is a number of its row, the dual rule has a column
   pub dual_column : (k : ℕ) → k < value_column p → form row k <ℤ (pos 0) → form row (right_column p) <ℤ (pos 0) → (col : ℕ) × IsDualDue p basis form row col
-  unfolding Marked Below
   dual_column k h under right = ⊎_elim found (λ (none : (i : ℕ) → i < value_column p → Marked i → ⊥). absurd (none k h (h, under))) (least_of (value_column p) Marked Below marks decides chain self)
     where
       found : (r : ℕ) × (r < value_column p) × Marked r × ((i : ℕ) → i < value_column p → Marked i → Below i r → ⊥) → (col : ℕ) × IsDualDue p basis form row col
-      found (r, g, m, all) = with_ray (ray_of r m)
-        where
-          with_ray : (x : ℕ → ℤ) × (d : ℤ) × IsRay p basis form r x d → (col : ℕ) × IsDualDue p basis form row col
-          with_ray (x, d, ray) = (r, record { below = below; column = g; right = right; under = m.1; ray = x; over = d; is_ray = ray; least = λ i free b y e ray_y lower. all i free.0 (free.0, b) (λ v f ray_v u c ray_u. lower_alike p basis form basic i r (neg_ℤ (form row i)) (neg_ℤ (form row r)) y v e f ray_y ray_v x u d c ray ray_u lower) })
+      found (r, g, m, all) = (r, due_if_least r m right all)

@@ -1,6 +1,8 @@
 -- Bases of which no two are the same are split by their last column, and counted.
-use Rattle.std.proofs.Common.{◌≡◌, ℕ, zero, suc, ◌+◌, ◌≤◌, arith, refl, List, [], ◌∷◌, length, ⊎_elim}
+use Rattle.std.proofs.Common.{◌≡◌, ℕ, zero, suc, ◌+◌, ◌*◌, ◌^◌, ◌<◌, ◌≤◌, arith, refl, List, [], ◌∷◌, length, ⊎_elim}
 use Rattle.std.specs.List.{All, AllPairs}
+use Rattle.std.proofs.Math.Nat.{pow-succ'}
+use Rattle.std.proofs.lemmas.Nat.{pow_pos}
 use Rattle.std.proofs.lemmas.List.Elements.{All-nil, All-head, All-tail, All-cons}
 use Rattle.std.proofs.lemmas.List.Kept.{AllPairs-cons}
 use Rattle.zr_basis.specs.Choices.{choose}
@@ -101,3 +103,21 @@ few_bases (suc n) (suc k) bases are differ =
     let a = few_bases n k s.left s.left_bases s.left_differ in
     let b = few_bases n (suc k) s.others s.other_bases s.others_differ in
     omega (arith, a, b, s.count)
+
+-- there is at least one way to choose no more than there are
+pub one_choice : (columns size : ℕ) → size ≤ columns → 0 < choose columns size
+one_choice columns zero h = omega arith
+one_choice zero (suc k) h = absurd (omega (arith, h))
+one_choice (suc n) (suc k) h =
+    let before = one_choice n k (omega (arith, h)) in
+    omega (arith, before)
+
+-- and no more than there are binary numbers with a digit for each thing
+pub choices_below_power : (columns size : ℕ) → choose columns size ≤ 2 ^ columns
+choices_below_power columns zero = pow_pos columns
+choices_below_power zero (suc k) = omega arith
+choices_below_power (suc n) (suc k) =
+    let one = choices_below_power n k in
+    let two = choices_below_power n (suc k) in
+    let power = pow-succ' 2 n in
+    omega (arith, one, two, power)

@@ -1,9 +1,9 @@
 -- A run, one pivot longer.
-use Rattle.std.proofs.Common.{◌≡◌, ◌≢◌, ℕ, zero, suc, ◌<◌, ◌≤◌, arith, refl, ⊎_elim}
+use Rattle.std.proofs.Common.{◌≡◌, ◌≢◌, ℕ, zero, suc, ◌+◌, ◌<◌, ◌≤◌, arith, refl, ⊎_elim}
 use Rattle.std.proofs.lemmas.Bool.{cases_eq}
 use Rattle.zr_basis.specs.Programs.{Program}
 use Rattle.zr_basis.specs.Stages.{IsFeasibleForm, Stage}
-use Rattle.zr_basis.specs.Runs.{IsDualStep, IsPrimalStep, IsRun}
+use Rattle.zr_basis.specs.Runs.{IsDualStep, IsPrimalStep, IsRun, Run, end_of, turn_of}
 
 -- f up to n, and then new
 abbrev pub put : (p : Program) → ℕ → (ℕ → Stage p) → Stage p → ℕ → Stage p
@@ -44,3 +44,61 @@ more_primal p n turn stage run earlier new step = record {
   feasible = λ a. rw (put_low p n stage new turn earlier) (run.feasible earlier);
   primals = λ k h q. ⊎_elim (λ (e : k ≡ n). rw (e, put_low p n stage new n (omega arith), put_high p n stage new, put_low p n stage new turn earlier) step) (λ (a : k ≢ n). rw (put_low p n stage new k (omega arith), put_low p n stage new (suc k) (omega arith), put_low p n stage new turn earlier) (run.primals k (omega arith) q)) (cases_eq k n);
 }
+
+-- the run of no pivot
+abbrev pub at_slacks : (p : Program) (s : Stage p) → ((i : ℕ) → i ≤ p.rows → s.basis i ≡ p.columns + i) → Run p
+at_slacks p s slacks = record {
+  pivots = 0;
+  turn = 1;
+  stage = λ n. s;
+  follows = record {
+    slacks = slacks;
+    duals = λ n h q. absurd (omega (arith, h));
+    feasible = λ h. absurd (omega (arith, h));
+    primals = λ n h q. absurd (omega (arith, h));
+  };
+}
+
+-- a run with one pivot more, to a stage
+pub record IsLonger (p : Program) (run : Run p) (new : Stage p) (next : Run p) : Type 0 where
+  pub pivots : next.pivots ≡ suc run.pivots
+  pub end : end_of p next ≡ new
+
+pub by_dual : (p : Program) (run : Run p) → run.pivots < run.turn → (new : Stage p) → IsDualStep p (end_of p run) new → (next : Run p) × IsLonger p run new next × (next.pivots < next.turn)
+by_dual p run before new step =
+    let later = turn_later p run.turn (suc (suc run.pivots)) run.pivots run.stage run.follows before (omega arith) in
+    let follows = more_dual p run.pivots (suc (suc run.pivots)) run.stage later (omega arith) new step in
+    (
+      record {
+        pivots = suc run.pivots;
+        turn = suc (suc run.pivots);
+        stage = put p run.pivots run.stage new;
+        follows = follows;
+      },
+      record { pivots = refl; end = put_high p run.pivots run.stage new },
+      omega arith,
+    )
+
+-- the primal rule begins here
+abbrev pub turn_here : (p : Program) (run : Run p) → run.pivots < run.turn → IsFeasibleForm p (end_of p run).form → Run p
+turn_here p run before feasible = record {
+  pivots = run.pivots;
+  turn = run.pivots;
+  stage = run.stage;
+  follows = turn_now p run.turn run.pivots run.stage run.follows before feasible;
+}
+
+pub by_primal : (p : Program) (run : Run p) → run.turn ≤ run.pivots → (new : Stage p) → IsPrimalStep p (turn_of p run) (end_of p run) new → (next : Run p) × IsLonger p run new next × (next.turn ≤ next.pivots) × (turn_of p next ≡ turn_of p run)
+by_primal p run after new step =
+    let follows = more_primal p run.pivots run.turn run.stage run.follows after new step in
+    (
+      record {
+        pivots = suc run.pivots;
+        turn = run.turn;
+        stage = put p run.pivots run.stage new;
+        follows = follows;
+      },
+      record { pivots = refl; end = put_high p run.pivots run.stage new },
+      omega arith,
+      put_low p run.pivots run.stage new run.turn after,
+    )

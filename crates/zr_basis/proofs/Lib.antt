@@ -10,6 +10,9 @@ pub mod Dual
 pub mod Links
 pub mod Reduced
 pub mod Chosen
+pub mod Compared
+pub mod Least
+pub mod Picked
 pub mod TakenOut
 pub mod Counting
 pub mod Reaching

@@ -126,6 +126,10 @@ module _ (p : Program) (turn last : ℕ) (stage : ℕ → Stage p) (run : IsRun 
   positive_from : (n : ℕ) → turn ≤ n → n ≤ last → ArePositive p (stage turn).basis (stage n).form
   positive_from n h q = let e : n ≡ turn + (n - turn) = omega arith in rw e (vectors (n - turn) (omega arith))
 
+  -- from the turn on no right side is below zero
+  pub feasible_from : (n : ℕ) → turn ≤ n → n ≤ last → IsFeasibleForm p (stage n).form
+  feasible_from n h q = feasible_if p (stage turn).basis (stage n).form (positive_from n h q)
+
   dual_falls : (n : ℕ) → n < last → n < turn → Falls p (stage turn) (stage n) (stage (suc n))
   dual_falls n h q = by (run.duals n h q)
     where

@@ -17,6 +17,11 @@ abbrev pub AreRaysPositive : Program → (ℕ → ℕ) → (ℕ → ℕ → ℤ)
 AreRaysPositive p basis form =
     (col : ℕ) → IsFree p basis col → (x : ℕ → ℤ) (d : ℤ) → IsRay p basis form col x d → IsLeading (value_column p) x
 
+-- the direction of k is lexicographically below that of l, each over the row's number, negated
+abbrev pub IsRayBelow : (p : Program) → (ℕ → ℕ) → (ℕ → ℕ → ℤ) → ℕ → ℕ → ℕ → Type 0
+IsRayBelow p basis form row k l =
+    (y : ℕ → ℤ) (e : ℤ) → IsRay p basis form k y e → (x : ℕ → ℤ) (d : ℤ) → IsRay p basis form l x d → IsLower (value_column p) y (e *ℤ neg_ℤ (form row k)) x (d *ℤ neg_ℤ (form row l))
+
 -- the row's right side is below zero; of the columns off the basis where the row is below zero, none has a lower quotient of direction by the row's number, negated, than this one
 pub record IsDualDue (p : Program) (basis : ℕ → ℕ) (form : ℕ → ℕ → ℤ) (row col : ℕ) : Type 0 where
   pub below : row < p.rows

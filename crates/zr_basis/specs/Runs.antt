@@ -33,3 +33,18 @@ pub record IsRun (p : Program) (turn last : ℕ) (stage : ℕ → Stage p) : Typ
   pub duals : (n : ℕ) → n < last → n < turn → IsDualStep p (stage n) (stage (suc n))
   pub feasible : turn ≤ last → IsFeasibleForm p (stage turn).form
   pub primals : (n : ℕ) → n < last → turn ≤ n → IsPrimalStep p (stage turn) (stage n) (stage (suc n))
+
+-- a run, how many pivots it has, and at which stage the primal rule begins
+pub record Run (p : Program) : Type 0 where
+  pub pivots : ℕ
+  pub turn : ℕ
+  pub stage : ℕ → Stage p
+  pub follows : IsRun p turn pivots stage
+
+-- the stage that it comes to
+abbrev pub end_of : (p : Program) → Run p → Stage p
+end_of p run = run.stage run.pivots
+
+-- the stage at which the primal rule begins
+abbrev pub turn_of : (p : Program) → Run p → Stage p
+turn_of p run = run.stage run.turn

@@ -5,6 +5,7 @@ use Rattle.std.proofs.lemmas.List.{length-map}
 use Rattle.zr_base.specs.Sums.{sum_products, sum_to}
 use Rattle.zr_base.specs.Terms.{Ascends, Terms, coef_at, value_at}
 use Rattle.zr_base.specs.Points.{PointOf, num_of}
+use Rattle.zr_base.specs.Steps.{IsNarrow}
 use Rattle.zr_base.proofs.Ring.{neg-mul_left}
 use Rattle.zr_base.proofs.Dense.{sum_to_same, value_dense}
 use Rattle.zr_base.proofs.SumSteps.{get_or_default}
@@ -122,8 +123,8 @@ module _ (lp : Lp) (good : IsLp lp) where
     best_column : (e v a s x : ℤ) → e ≡ s -ℤ v *ℤ a → x ≡ neg_ℤ s → v *ℤ a +ℤ x ≡ neg_ℤ e
     best_column e v a s x h k = omega (arith, ints, h, k)
 
-    pub best : (point : PointOf) (mult extra : Terms) → IsBasicPoint (program_of lp) (basis_of t) (form_of t) point → ((i : ℕ) → i < length lp.rows.items → (pos 0) ≤ℤ form_of t i (right_column (program_of lp))) → Ascends 0 (length lp.rows.items) mult → AreListed lp mult extra → AreOf (program_of lp) (form_of t (length lp.rows.items)) true mult extra → IsBest lp point (form_of t (length lp.rows.items) (value_column (program_of lp))) mult extra
-    best point mult extra point_of rights ascends listed of =
+    pub best : (point : PointOf) (mult extra : Terms) → IsBasicPoint (program_of lp) (basis_of t) (form_of t) point → ((i : ℕ) → i < length lp.rows.items → (pos 0) ≤ℤ form_of t i (right_column (program_of lp))) → Ascends 0 (length lp.rows.items) mult → AreListed lp mult extra → AreOf (program_of lp) (form_of t (length lp.rows.items)) true mult extra → IsNarrow (form_of t (length lp.rows.items) (value_column (program_of lp))) → IsNarrow (form_of t (length lp.rows.items) (right_column (program_of lp))) → IsBest lp point (form_of t (length lp.rows.items) (value_column (program_of lp))) (form_of t (length lp.rows.items) (right_column (program_of lp))) mult extra
+    best point mult extra point_of rights ascends listed of narrow_scale narrow_value =
         let m = length lp.rows.items in
         let e = form_of t m in
         let c = kept.form.combination m (omega arith) in
@@ -136,7 +137,9 @@ module _ (lp : Lp) (good : IsLp lp) where
           listed = listed;
           scale_above = omega (arith, ints, own);
           columns = λ j q. best_column (e j) (e (lp.columns + m)) (numbers lp.aim.items j) (sum_to m (λ r. e (lp.columns + r) *ℤ (program_of lp).coef r j)) ((weighed lp mult).coef j) (c.columns j q) (weighed_negated e mult extra ascends of (λ r. (program_of lp).coef r j)) ∙ sym (of.extras j q);
-          value = rw (right, aim) (sym value);
+          right = sym right;
+          value = rw aim (sym value);
+          narrow = (narrow_scale, narrow_value);
         }
 
     pub unbounded : (col : ℕ) (point : PointOf) (ray : List ℤ) → col < value_column (program_of lp) → IsBasicPoint (program_of lp) (basis_of t) (form_of t) point → IsBasicRay (program_of lp) (basis_of t) (form_of t) col ray → ((i : ℕ) → i < length lp.rows.items → (pos 0) ≤ℤ form_of t i (right_column (program_of lp))) → (pos 0) <ℤ form_of t (length lp.rows.items) col → ((i : ℕ) → i < length lp.rows.items → form_of t i col ≤ℤ (pos 0)) → IsUnbounded lp point ray

@@ -23,5 +23,7 @@ mod Kept
 mod Low
 mod Conclude
 mod Turned
-mod Leaving
 pub mod Quotients
+mod Digits
+mod Going
+mod Stops

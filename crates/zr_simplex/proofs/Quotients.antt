@@ -1,11 +1,11 @@
 -- Quotients in lowest terms are ordered as the numbers that they are made of.
-use Rattle.std.proofs.Common.{◌≡◌, arith, sym, ap, ◌∙◌, ℤ, pos, ◌*ℤ◌, ◌≤ℤ◌, ◌<ℤ◌, ◌⊎◌, inl, inr}
+use Rattle.std.proofs.Common.{◌≡◌, arith, sym, ap, subst, ◌∙◌, ℤ, pos, neg_ℤ, ◌*ℤ◌, ◌≤ℤ◌, ◌<ℤ◌, ◌⊎◌, inl, inr}
 use Rattle.std.proofs.lemmas.Int.{ints}
 use Rattle.std.specs.Cmp.{int_cmp_is, int_ranks}
 use Rattle.std.specs.Ordering.{int_cmp, MatchOrdering}
 use Rattle.std.specs.declared.cmp.Ordering.{Ordering}
 use Rattle.std.specs.declared.cmp.Ordering.TheVariants.{Less, Equal, Greater}
-use Rattle.zr_base.proofs.Ring.{spread}
+use Rattle.zr_base.proofs.Ring.{neg-mul_right, spread}
 use Rattle.zr_base.proofs.Divisors.{cancel, mul_positive}
 use Rattle.zr_base.proofs.Worth.{le_times, le_of_times}
 
@@ -49,3 +49,23 @@ quotients_alike n d m e a b c f dp ep bp fp first second =
     let two = simp spread at (ap (λ z. z *ℤ (d *ℤ b)) second) in
     alike (n *ℤ e) (m *ℤ d) (a *ℤ f) (c *ℤ b) (b *ℤ f) (d *ℤ e) (mul_positive b f bp fp) (mul_positive d e dp ep)
     (simp spread (omega (arith, ints, one))) (simp spread (omega (arith, ints, two)))
+
+-- what the order of two numbers says
+ranked : (u v : ℤ) (r : Ordering) → int_cmp u v ≡ r → MatchOrdering r (u <ℤ v) (u ≡ v) (v <ℤ u)
+ranked u v r e = subst (λ q. MatchOrdering q (u <ℤ v) (u ≡ v) (v <ℤ u)) e (int_ranks u v)
+
+pub less_if : (u v : ℤ) → int_cmp u v ≡ Less → u <ℤ v
+less_if u v e = ranked u v Less e
+
+pub equal_if : (u v : ℤ) → int_cmp u v ≡ Equal → u ≡ v
+equal_if u v e = ranked u v Equal e
+
+pub greater_if : (u v : ℤ) → int_cmp u v ≡ Greater → v <ℤ u
+greater_if u v e = ranked u v Greater e
+
+-- the same with both signs of two factors turned
+pub turned_less : (a b c d : ℤ) → (a *ℤ neg_ℤ b) <ℤ (c *ℤ neg_ℤ d) → (c *ℤ d) <ℤ (a *ℤ b)
+turned_less a b c d h = omega (arith, ints, h, neg-mul_right a b, neg-mul_right c d)
+
+pub turned_equal : (a b c d : ℤ) → a *ℤ neg_ℤ b ≡ c *ℤ neg_ℤ d → a *ℤ b ≡ c *ℤ d
+turned_equal a b c d h = omega (arith, ints, h, neg-mul_right a b, neg-mul_right c d)

@@ -1,47 +1,69 @@
--- What the method has paid, and why it stops without an answer.
-use Rattle.std.specs.Prelude.{◌≡◌, ℕ, ◌+◌, ◌-◌, ◌≤◌, ℤ, slice_index}
+-- What the method has counted, and why it stops without an answer.
+use Rattle.std.specs.Prelude.{◌≡◌, ℕ, ◌+◌, ◌-◌, ◌^◌, ◌<◌, ◌≤◌, ◌⊎◌, ℤ, slice_index}
+use Rattle.zr_base.specs.declared.step.Wide.{Wide as AWide}
 use Rattle.zr_io.specs.declared.purse.Purse.{Purse}
-use Rattle.zr_io.specs.Purses.{counted}
 use Rattle.zr_lin.specs.declared.stuck.Step.{Step}
 use Rattle.zr_lin.specs.declared.stuck.Step.TheVariants as AStep
+use Rattle.zr_basis.specs.Programs.{Program}
+use Rattle.zr_basis.specs.BasicForms.{value_column}
+use Rattle.zr_basis.specs.Choices.{choose}
+use Rattle.zr_basis.specs.Primal.{IsPrimalDue}
+use Rattle.zr_basis.specs.Dual.{IsDualDue}
+use Rattle.zr_basis.specs.Runs.{Run, end_of, turn_of}
 use Rattle.zr_simplex.specs.declared.program.LpAnswer.{LpAnswer}
 use Rattle.zr_simplex.specs.declared.program.Stop.{Stop}
-use Rattle.zr_simplex.specs.declared.program.Stop.TheVariants.{NoMemory, Spent, Wide}
-use Rattle.zr_basis.specs.Programs.{Program}
-use Rattle.zr_basis.specs.BasicForms.{IsBasicForm}
-use Rattle.zr_simplex.specs.Pivots.{IsDue, IsReached}
+use Rattle.zr_simplex.specs.declared.program.Stop.TheVariants.{NoMemory, Wide}
 use Rattle.zr_simplex.specs.Answers.{IsBasicAnswer}
-use Rattle.zr_simplex.specs.StuckSteps.{IsStuck}
+use Rattle.zr_simplex.specs.Ends.{IsLeastAt, IsEndlessAt}
+use Rattle.zr_simplex.specs.StuckSteps.{IsStuck, IsWideStep}
 
--- only pivots were paid for
-pub record PaysPivots (old new : Purse) : Type 0 where
+-- the count rose by so many, or stands at its last value, which they would reach or pass
+abbrev pub CountsUp : ℕ → ℕ → ℕ → Type 0
+CountsUp old new many =
+    (new ≡ old + many) ⊎ ((new ≡ 2 ^ 64 - 1) × (2 ^ 64 - 1 ≤ old + many))
+
+-- so many pivots were counted, and nothing else
+pub record CountsPivots (old new : Purse) (pivots : ℕ) : Type 0 where
+  pub count : CountsUp old.pivots new.pivots pivots
   pub limit : new.limit ≡ old.limit
-  pub pivots : old.pivots ≤ new.pivots
   pub branches : new.branches ≡ old.branches
   pub cuts : new.cuts ≡ old.cuts
 
--- how many
-abbrev pub paid : Purse → Purse → ℕ
-paid old new = new.pivots - old.pivots
+-- the pivots were fewer than the ways to choose the columns of a basis
+abbrev pub CountsFew : Program → Purse → Purse → Type 0
+CountsFew p old new =
+    (pivots : ℕ) × (pivots < choose (value_column p) p.rows) × CountsPivots old new pivots
 
--- the answer is read off the basic form of a basis that so many pivots reach
-abbrev pub IsReachedAnswer : Program → ℕ → LpAnswer → Type 0
-IsReachedAnswer p pivots a =
-    (basis : ℕ → ℕ) × (form : ℕ → ℕ → ℤ) × IsReached p pivots basis × IsBasicForm p basis form × IsBasicAnswer p basis form a
+-- a run of the counted pivots comes to a basic form, and there the answer is due
+abbrev pub IsReachedAnswer : Program → Purse → Purse → LpAnswer → Type 0
+IsReachedAnswer p old new a =
+    (run : Run p) × CountsPivots old new run.pivots × IsBasicAnswer p (end_of p run).basis (end_of p run).form a
 
--- a pivot is due at a basis that so many pivots reach
-abbrev pub IsDueAfter : Program → ℕ → Type 0
-IsDueAfter p pivots =
-    (basis : ℕ → ℕ) × (form : ℕ → ℕ → ℤ) × (row : ℕ) × (col : ℕ) × IsReached p pivots basis × IsBasicForm p basis form × IsDue p form row col
+-- the step is one of a point or a ray that is due at the form
+abbrev pub IsEndStep : Program → (ℕ → ℕ → ℤ) → Step → Type 0
+IsEndStep p form (AStep.Pivot row col at_row at_col) = ⊥
+IsEndStep p form (AStep.Point row) = IsLeastAt p form ⊎ ((col : ℕ) × IsEndlessAt p form col)
+IsEndStep p form (AStep.Ray row col) = IsEndlessAt p form col
 
--- the pivot that a step is part of, if any
-abbrev pub under_way : Step → ℕ
-under_way (AStep.Pivot row col at_row at_col) = 1
-under_way _ = 0
+-- a pivot is due where the run comes to, by the dual rule or by the primal one
+abbrev pub IsPivotDue : (p : Program) → Run p → ℕ → ℕ → Type 0
+IsPivotDue p run row col =
+    IsDualDue p (end_of p run).basis (end_of p run).form row col
+    ⊎ ((run.turn ≤ run.pivots) × IsPrimalDue p (turn_of p run).basis (end_of p run).form row col)
 
--- the purse is at its limit and a pivot is due; or the kept basis, which the pivots reach, is stuck at the kept step
+-- the step is one of the pivot, the point or the ray that is due where the run comes to
+abbrev pub IsDueStep : (p : Program) → Run p → Step → Type 0
+IsDueStep p run (AStep.Pivot row col at_row at_col) = IsPivotDue p run row col
+IsDueStep p run (AStep.Point row) = IsEndStep p (end_of p run).form (AStep.Point row)
+IsDueStep p run (AStep.Ray row col) = IsEndStep p (end_of p run).form (AStep.Ray row col)
+
+-- a run of the counted pivots comes to the basis, and there the step is due and too wide
+abbrev pub IsStuckAfter : Program → Purse → Purse → (ℕ → ℕ) → Step → AWide → Type 0
+IsStuckAfter p old new basis step wide =
+    (run : Run p) × CountsPivots old new run.pivots × ((end_of p run).basis ≡ basis) × IsDueStep p run step × IsWideStep p (end_of p run).basis (end_of p run).form step wide
+
+-- want of memory; or the kept basis, which the pivots reach, is stuck at the kept step, which is due
 abbrev pub IsCause : Program → Purse → Purse → Stop → Type 0
 IsCause p old new NoMemory = Unit {0}
-IsCause p old new Spent = (counted new ≡ new.limit) × IsDueAfter p (paid old new)
 IsCause p old new (Wide stuck) =
-    IsStuck p stuck × ((n : ℕ) × IsReached p n (λ i. slice_index stuck.basis.items i) × (n + under_way stuck.step ≡ paid old new))
+    IsStuck p stuck × IsStuckAfter p old new (λ i. slice_index stuck.basis.items i) stuck.step stuck.wide

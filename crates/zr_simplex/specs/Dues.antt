@@ -1,11 +1,13 @@
 -- The equations of a program that the method keeps, and what is due at them.
-use Rattle.std.specs.Prelude.{◌≡◌, ℕ, ◌+◌, ◌<◌, ℤ, pos, ◌*ℤ◌, ◌+ℤ◌, ◌<ℤ◌, ◌≤ℤ◌, length}
+use Rattle.std.specs.Prelude.{◌≡◌, ℕ, ◌+◌, ◌<◌, ℤ, pos, ◌*ℤ◌, ◌+ℤ◌, ◌<ℤ◌, ◌≤ℤ◌, List, length, slice_index}
 use Rattle.zr_base.specs.Sums.{sum_to}
 use Rattle.zr_simplex.specs.declared.choose.Due.{Due}
 use Rattle.zr_simplex.specs.declared.choose.Due.TheVariants.{Best, Empty, Unbounded, Pivot}
 use Rattle.zr_basis.specs.Programs.{Program}
 use Rattle.zr_basis.specs.BasicForms.{right_column, value_column, IsBasicForm}
-use Rattle.zr_simplex.specs.Pivots.{IsDue}
+use Rattle.zr_basis.specs.Primal.{IsPrimalDue}
+use Rattle.zr_basis.specs.Dual.{IsDualDue}
+use Rattle.zr_simplex.specs.Ends.{IsLeastAt, IsEmptyAt, IsEndlessAt}
 use Rattle.zr_simplex.specs.Tableaus.{Equations, IsPartition, basis_of, form_of, free_of}
 
 -- e holds where the columns have the values `x j / d`
@@ -30,17 +32,27 @@ pub record IsTableau (p : Program) (t : Equations) : Type 0 where
   pub form : IsBasicForm p (basis_of t) (form_of t)
   pub complete : IsComplete p (form_of t)
 
--- what is due: one of the answers, or a pivot
-abbrev pub IsNext : Program → (ℕ → ℕ → ℤ) → Due → Type 0
-IsNext p form Best =
-    ((i : ℕ) → i < p.rows → (pos 0) ≤ℤ form i (right_column p)) × ((j : ℕ) → j < value_column p → form p.rows j ≤ℤ (pos 0))
-IsNext p form (Empty row) =
-    (row < p.rows) × (form row (right_column p) <ℤ (pos 0)) × ((j : ℕ) → j < value_column p → (pos 0) ≤ℤ form row j)
-IsNext p form (Unbounded col) =
-    (col < value_column p) × ((i : ℕ) → i < p.rows → (pos 0) ≤ℤ form i (right_column p)) × ((pos 0) <ℤ form p.rows col) × ((i : ℕ) → i < p.rows → form i col ≤ℤ (pos 0))
-IsNext p form (Pivot row col) = IsDue p form row col
+-- the list has a column before the value's for each row
+abbrev pub IsStart : Program → List ℕ → Type 0
+IsStart p start =
+    (length start ≡ p.rows + 1) × ((i : ℕ) → i < p.rows → slice_index start i < value_column p)
 
--- no pivot is due
-abbrev pub IsOver : Due → Type 0
-IsOver (Pivot row column) = ⊥
-IsOver due = Unit {0}
+-- what is due where a right side is below zero: no point meets the rows, or a pivot by the dual rule
+abbrev pub IsMendingDue : Program → (ℕ → ℕ) → (ℕ → ℕ → ℤ) → Due → Type 0
+IsMendingDue p basis form (Empty row) = IsEmptyAt p form row
+IsMendingDue p basis form (Pivot row col) = IsDualDue p basis form row col
+IsMendingDue p basis form _ = ⊥
+
+-- what is due where none is: an answer, or a pivot by the primal rule, whose vectors are read by the basis `start`
+abbrev pub IsImprovingDue : Program → (ℕ → ℕ) → (ℕ → ℕ → ℤ) → Due → Type 0
+IsImprovingDue p start form Best = IsLeastAt p form
+IsImprovingDue p start form (Unbounded col) = IsEndlessAt p form col
+IsImprovingDue p start form (Pivot row col) = IsPrimalDue p start form row col
+IsImprovingDue p start form (Empty row) = ⊥
+
+-- what is due ends the method
+abbrev pub IsEnd : Program → (ℕ → ℕ → ℤ) → Due → Type 0
+IsEnd p form Best = IsLeastAt p form
+IsEnd p form (Empty row) = IsEmptyAt p form row
+IsEnd p form (Unbounded col) = IsEndlessAt p form col
+IsEnd p form (Pivot row col) = ⊥

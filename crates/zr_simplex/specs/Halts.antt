@@ -5,7 +5,11 @@ use Rattle.zr_simplex.specs.declared.basic.Halt.TheVariants as AHalt
 use Rattle.zr_simplex.specs.declared.basic.Miss.{Miss}
 use Rattle.zr_simplex.specs.declared.basic.Miss.TheVariants as AMiss
 use Rattle.zr_basis.specs.Programs.{Program}
-use Rattle.zr_simplex.specs.Causes.{under_way}
+use Rattle.zr_basis.specs.Runs.{Run, end_of}
+use Rattle.zr_io.specs.declared.purse.Purse.{Purse}
+use Rattle.zr_lin.specs.declared.stuck.Step.{Step}
+use Rattle.zr_lin.specs.declared.stuck.Step.TheVariants as AStep
+use Rattle.zr_simplex.specs.Causes.{CountsPivots, IsStuckAfter}
 use Rattle.zr_simplex.specs.StuckSteps.{IsWideAt, IsWideStep}
 
 -- a step of the numerators, or of their common multiple, is too wide
@@ -13,7 +17,27 @@ abbrev pub HaltsAt : ℕ → (ℕ → ℕ) → (ℕ → ℕ → ℤ) → (ℕ �
 HaltsAt rows basis form value AHalt.NoMemory = Unit {0}
 HaltsAt rows basis form value (AHalt.Wide at) = IsWideAt rows basis form value at.row at.wide
 
--- the step of the basic form is too wide, and is none of a pivot
-abbrev pub IsMiss : Program → (ℕ → ℕ) → (ℕ → ℕ → ℤ) → Miss → Type 0
-IsMiss p basis form AMiss.NoMemory = Unit {0}
-IsMiss p basis form (AMiss.Wide step w) = IsWideStep p basis form step w × (under_way step ≡ 0)
+-- a step of the basic solution
+abbrev pub IsPointStep : Step → Type 0
+IsPointStep (AStep.Point row) = Unit {0}
+IsPointStep _ = ⊥
+
+-- a step of the basic direction of this column
+abbrev pub IsRayStep : ℕ → Step → Type 0
+IsRayStep column (AStep.Ray row col) = col ≡ column
+IsRayStep column _ = ⊥
+
+-- want of memory; or the step of the basic form is one of these, and too wide
+abbrev pub IsMiss : Program → (ℕ → ℕ) → (ℕ → ℕ → ℤ) → (Step → Type 0) → Miss → Type 0
+IsMiss p basis form Among AMiss.NoMemory = Unit {0}
+IsMiss p basis form Among (AMiss.Wide step w) = IsWideStep p basis form step w × Among step
+
+-- want of memory; or a run of the counted pivots comes to the basis, and there the step is due and too wide
+abbrev pub IsMissAfter : Program → Purse → Purse → (ℕ → ℕ) → Miss → Type 0
+IsMissAfter p old new basis AMiss.NoMemory = Unit {0}
+IsMissAfter p old new basis (AMiss.Wide step w) = IsStuckAfter p old new basis step w
+
+-- a run of the counted pivots comes to this basis and form
+abbrev pub HasRun : Program → Purse → Purse → (ℕ → ℕ) → (ℕ → ℕ → ℤ) → Type 0
+HasRun p old new basis form =
+    (run : Run p) × CountsPivots old new run.pivots × ((end_of p run).basis ≡ basis) × ((end_of p run).form ≡ form)

@@ -1,5 +1,5 @@
 pub mod Programs
-pub mod Pivots
+pub mod Ends
 pub mod StuckSteps
 pub mod Answers
 pub mod Causes
@@ -7,3 +7,4 @@ pub mod RowSteps
 pub mod Tableaus
 pub mod Dues
 pub mod Halts
+pub mod Binaries

@@ -8,7 +8,7 @@ ghost use Rattle.zr_simplex.specs.StuckSteps.{IsNumerator};
 ghost use Rattle.zr_simplex.specs.Answers.{IsBasicPoint, IsBasicRay, signed};
 ghost use Rattle.zr_simplex.specs.Tableaus.{basis_of, form_of};
 ghost use Rattle.zr_simplex.specs.Dues.{IsTableau};
-ghost use Rattle.zr_simplex.specs.Halts.{HaltsAt, IsMiss};
+ghost use Rattle.zr_simplex.specs.Halts.{HaltsAt, IsMiss, IsPointStep, IsRayStep};
 
 use crate::program::Lp;
 use crate::solution::{WideAt, common_multiple, fill};
@@ -90,7 +90,7 @@ pub(crate) fn point_of(alloc: Global, lp: &Lp, tableau: &Tableau) -> Result<Poin
     requires lp { IsLp lp.now }
     requires kept { IsTableau (program_of lp.now) tableau.now }
     ensures point { IfOk result (IsBasicPoint (program_of lp.now) (basis_of tableau.now) (form_of tableau.now)) }
-    ensures halts { IfErr result (IsMiss (program_of lp.now) (basis_of tableau.now) (form_of tableau.now)) }
+    ensures halts { IfErr result (IsMiss (program_of lp.now) (basis_of tableau.now) (form_of tableau.now) IsPointStep) }
 {
     let right = lp.columns as usize + lp.rows.len() + 1;
     match over_basis(alloc, lp, tableau, right, false) {
@@ -115,7 +115,7 @@ pub(crate) fn ray_of(
     requires column { column < value_column (program_of lp.now) }
     requires free { (i : ℕ) → i < length lp.now.rows.items → column ≢ basis_of tableau.now i }
     ensures ray { IfOk result (λ ray. IsBasicRay (program_of lp.now) (basis_of tableau.now) (form_of tableau.now) column ray.items) }
-    ensures halts { IfErr result (IsMiss (program_of lp.now) (basis_of tableau.now) (form_of tableau.now)) }
+    ensures halts { IfErr result (IsMiss (program_of lp.now) (basis_of tableau.now) (form_of tableau.now) (IsRayStep column)) }
 {
     match over_basis(alloc, lp, tableau, column, true) {
         Ok((mut ray, den)) => {

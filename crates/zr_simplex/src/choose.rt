@@ -1,15 +1,18 @@
-ghost use Rattle.std.specs.Prelude.{◌≡◌, ◌<◌, ◌⊎◌, ℕ, ℤ, pos, ◌<ℤ◌, ◌≤ℤ◌, ◌*ℤ◌, true, false, Some, MatchOption, length};
+ghost use Rattle.std.specs.Prelude.{◌≡◌, ◌≢◌, ◌<◌, ◌+◌, ◌≤◌, ◌⊎◌, ℕ, ℤ, pos, neg_ℤ, ◌<ℤ◌, ◌≤ℤ◌, ◌*ℤ◌, true, false, Some, MatchOption, length, slice_index, IfOk};
 ghost use Rattle.std.specs.Ordering.{int_cmp};
 ghost use Rattle.zr_base.specs.Fractions.{HaveSameCross, ratio};
 ghost use Rattle.zr_base.specs.Lowest.{IsRatio};
-ghost use Rattle.zr_simplex.specs.Programs.{IsLp, program_of};
 ghost use Rattle.zr_basis.specs.BasicForms.{right_column, value_column};
-ghost use Rattle.zr_simplex.specs.Pivots.{IsLeast, IsNoGreater};
-ghost use Rattle.zr_simplex.specs.Tableaus.{form_of};
-ghost use Rattle.zr_simplex.specs.Dues.{IsNext, IsTableau};
+ghost use Rattle.zr_basis.specs.Stages.{IsFeasibleForm};
+ghost use Rattle.zr_basis.specs.Primal.{IsPrimalDue, IsRowBelow, place};
+ghost use Rattle.zr_basis.specs.Dual.{IsDualDue, IsRayBelow};
+ghost use Rattle.zr_simplex.specs.Programs.{IsLp, program_of};
+ghost use Rattle.zr_simplex.specs.Tableaus.{basis_of, form_of};
+ghost use Rattle.zr_simplex.specs.Dues.{IsImprovingDue, IsMendingDue, IsStart, IsTableau};
 
 use crate::program::Lp;
 use crate::tableau::Tableau;
+use std::alloc::{AllocError, Global};
 use std::cmp::Ordering;
 use zr_base::Frac;
 
@@ -22,53 +25,79 @@ pub(crate) enum Due {
     Pivot(usize, usize),
 }
 
-/// What is due: while a right side is below zero, what mends it; then what improves the value.
-pub(crate) fn what_is_due(lp: &Lp, tableau: &Tableau) -> Due
+/// What is due: by the dual rule while a right side is below zero, and then by the primal rule. The
+/// basis at which none is below zero for the first time is kept as `start`.
+pub(crate) fn next_due(
+    alloc: Global,
+    lp: &Lp,
+    tableau: &Tableau,
+    start: &mut Option<Vec<u32>>,
+) -> Result<Due, AllocError>
     requires lp { IsLp lp.now }
     requires kept { IsTableau (program_of lp.now) tableau.now }
-    ensures { IsNext (program_of lp.now) (form_of tableau.now) result }
+    requires start { MatchOption start.old (Unit {0}) (λ kept. IsStart (program_of lp.now) kept.items × IsFeasibleForm (program_of lp.now) (form_of tableau.now)) }
+    ensures due { IfOk result (λ due. MatchOption start.new (IsMendingDue (program_of lp.now) (basis_of tableau.now) (form_of tableau.now) due) (λ kept. IsImprovingDue (program_of lp.now) (λ i. slice_index kept.items i) (form_of tableau.now) due)) }
+    ensures kept { MatchOption start.old (MatchOption start.new (Unit {0}) (λ kept. (kept.items ≡ tableau.now.basis) × IsFeasibleForm (program_of lp.now) (form_of tableau.now))) (λ kept. start.new ≡ Some kept) }
 {
-    match row_to_mend(lp, tableau) {
-        Some(row) => match column_below(lp, tableau, row) {
-            Some(column) => Due::Pivot(row, column),
-            None => Due::Empty(row),
-        },
-        None => match column_to_raise(lp, tableau) {
-            Some(column) => match row_to_leave(lp, tableau, column) {
-                Some(row) => Due::Pivot(row, column),
-                None => Due::Unbounded(column),
-            },
-            None => Due::Best,
-        },
+    if let Some(kept) = start {
+        return Ok(improving_due(lp, tableau, kept));
+    }
+    if let Some(due) = mending_due(lp, tableau) {
+        return Ok(due);
+    }
+    let kept = tableau.basis().to_vec(alloc)?;
+    let due = improving_due(lp, tableau, &kept);
+    *start = Some(kept);
+    Ok(due)
+}
+
+/// What is due while a right side is below zero: a pivot by the dual rule, or no point meets the
+/// rows.
+fn mending_due(lp: &Lp, tableau: &Tableau) -> Option<Due>
+    requires lp { IsLp lp.now }
+    requires kept { IsTableau (program_of lp.now) tableau.now }
+    ensures { MatchOption result (IsFeasibleForm (program_of lp.now) (form_of tableau.now)) (IsMendingDue (program_of lp.now) (basis_of tableau.now) (form_of tableau.now)) }
+{
+    let Some(row) = row_to_mend(lp, tableau) else {
+        return None;
+    };
+    match column_to_enter(lp, tableau, row) {
+        Some(column) => Some(Due::Pivot(row, column)),
+        None => Some(Due::Empty(row)),
     }
 }
 
-/// A row whose right side is below zero: of these the one whose column in the basis is first.
+/// What is due where no right side is below zero: a pivot by the primal rule, whose vectors are read
+/// by the basis `start`, or the end.
+fn improving_due(lp: &Lp, tableau: &Tableau, start: &[u32]) -> Due
+    requires lp { IsLp lp.now }
+    requires kept { IsTableau (program_of lp.now) tableau.now }
+    requires start { IsStart (program_of lp.now) start.now }
+    requires feasible { IsFeasibleForm (program_of lp.now) (form_of tableau.now) }
+    ensures { IsImprovingDue (program_of lp.now) (λ i. slice_index start.now i) (form_of tableau.now) result }
+{
+    let Some(column) = column_to_raise(lp, tableau) else {
+        return Due::Best;
+    };
+    match row_to_leave(lp, tableau, start, column) {
+        Some(row) => Due::Pivot(row, column),
+        None => Due::Unbounded(column),
+    }
+}
+
+/// The first row whose right side is below zero.
 fn row_to_mend(lp: &Lp, tableau: &Tableau) -> Option<usize>
     requires lp { IsLp lp.now }
     requires kept { IsTableau (program_of lp.now) tableau.now }
-    ensures { MatchOption result ((i : ℕ) → i < length lp.now.rows.items → pos 0 ≤ℤ form_of tableau.now i (right_column (program_of lp.now))) (λ i. (i < length lp.now.rows.items) × (form_of tableau.now i (right_column (program_of lp.now)) <ℤ pos 0)) }
+    ensures { MatchOption result (IsFeasibleForm (program_of lp.now) (form_of tableau.now)) (λ i. (i < length lp.now.rows.items) × (form_of tableau.now i (right_column (program_of lp.now)) <ℤ pos 0)) }
 {
     let right = right_of(lp);
-    let mut found = None;
     for i in 0..lp.rows.len() {
         if tableau.number(i, right) < 0 {
-            found = Some(earlier(tableau, found, i));
+            return Some(i);
         }
     }
-    found
-}
-
-/// The row whose column in the basis is first.
-fn earlier(tableau: &Tableau, found: Option<usize>, row: usize) -> usize
-    requires row { row < length tableau.now.basis }
-    requires found { MatchOption found (Unit {0}) (λ i. i < length tableau.now.basis) }
-    ensures { (result ≡ row) ⊎ (found ≡ Some result) }
-{
-    match found {
-        Some(last) if tableau.own(last) < tableau.own(row) => last,
-        _ => row,
-    }
+    None
 }
 
 /// The column of the right sides.
@@ -79,19 +108,108 @@ fn right_of(lp: &Lp) -> usize
     lp.columns as usize + lp.rows.len() + 1
 }
 
-/// The first column, before the value's, at which a row is below zero.
-fn column_below(lp: &Lp, tableau: &Tableau, row: usize) -> Option<usize>
+/// The column that enters in place of a row's: of those where the row is below zero the one with
+/// the lowest direction, each over the row's number, negated.
+fn column_to_enter(lp: &Lp, tableau: &Tableau, row: usize) -> Option<usize>
     requires lp { IsLp lp.now }
     requires kept { IsTableau (program_of lp.now) tableau.now }
     requires row { row < length lp.now.rows.items }
-    ensures { MatchOption result ((j : ℕ) → j < value_column (program_of lp.now) → pos 0 ≤ℤ form_of tableau.now row j) (λ j. (j < value_column (program_of lp.now)) × (form_of tableau.now row j <ℤ pos 0)) }
+    requires right { form_of tableau.now row (right_column (program_of lp.now)) <ℤ pos 0 }
+    ensures { MatchOption result ((j : ℕ) → j < value_column (program_of lp.now) → pos 0 ≤ℤ form_of tableau.now row j) (IsDualDue (program_of lp.now) (basis_of tableau.now) (form_of tableau.now) row) }
 {
+    let mut best = None;
     for j in 0..lp.columns as usize + lp.rows.len() {
         if tableau.number(row, j) < 0 {
-            return Some(j);
+            best = Some(better_column(lp, tableau, row, best, j));
+        }
+    }
+    best
+}
+
+/// The better of two columns to enter.
+fn better_column(
+    lp: &Lp,
+    tableau: &Tableau,
+    row: usize,
+    best: Option<usize>,
+    column: usize,
+) -> usize
+    requires lp { IsLp lp.now }
+    requires kept { IsTableau (program_of lp.now) tableau.now }
+    requires row { row < length lp.now.rows.items }
+    requires column { column < value_column (program_of lp.now) }
+    requires under { form_of tableau.now row column <ℤ pos 0 }
+    requires best { MatchOption best (Unit {0}) (λ last. (last < column) × (form_of tableau.now row last <ℤ pos 0)) }
+    ensures { MatchOption best (result ≡ column) (λ last. ((result ≡ column) × IsRayBelow (program_of lp.now) (basis_of tableau.now) (form_of tableau.now) row column last) ⊎ ((result ≡ last) × (IsRayBelow (program_of lp.now) (basis_of tableau.now) (form_of tableau.now) row column last → ⊥))) }
+{
+    match best {
+        Some(last) if !is_lower_ray(lp, tableau, row, column, last) => last,
+        _ => column,
+    }
+}
+
+/// Whether the direction of a column is lower than that of an earlier one, each over the row's
+/// number, negated.
+fn is_lower_ray(lp: &Lp, tableau: &Tableau, row: usize, column: usize, last: usize) -> bool
+    requires lp { IsLp lp.now }
+    requires kept { IsTableau (program_of lp.now) tableau.now }
+    requires row { row < length lp.now.rows.items }
+    requires column { column < value_column (program_of lp.now) }
+    requires order { last < column }
+    requires under { form_of tableau.now row column <ℤ pos 0 }
+    requires under_last { form_of tableau.now row last <ℤ pos 0 }
+    ensures yes { result ≡ true → IsRayBelow (program_of lp.now) (basis_of tableau.now) (form_of tableau.now) row column last }
+    ensures no { result ≡ false → IsRayBelow (program_of lp.now) (basis_of tableau.now) (form_of tableau.now) row column last → ⊥ }
+{
+    for at in 0..last {
+        if let Some(i) = row_of(lp, tableau, at) {
+            match compare_rays(tableau, row, column, last, i) {
+                Ordering::Less => return true,
+                Ordering::Greater => return false,
+                Ordering::Equal => {}
+            }
+        }
+    }
+    true
+}
+
+/// The row whose column in the basis this is.
+fn row_of(lp: &Lp, tableau: &Tableau, column: usize) -> Option<usize>
+    requires lp { IsLp lp.now }
+    requires kept { IsTableau (program_of lp.now) tableau.now }
+    ensures { MatchOption result ((i : ℕ) → i < length lp.now.rows.items → basis_of tableau.now i ≢ column) (λ i. (i < length lp.now.rows.items) × (basis_of tableau.now i ≡ column)) }
+{
+    for i in 0..lp.rows.len() {
+        if tableau.own(i) == column {
+            return Some(i);
         }
     }
     None
+}
+
+/// The order of what row `at` has at column `last` and at `column`, each over the number of `row`
+/// there, negated.
+fn compare_rays(
+    tableau: &Tableau,
+    row: usize,
+    column: usize,
+    last: usize,
+    at: usize,
+) -> Ordering
+    requires row { row < length tableau.now.basis }
+    requires at { at < length tableau.now.basis }
+    requires column { column < tableau.now.width }
+    requires last { last < tableau.now.width }
+    requires under { form_of tableau.now row column <ℤ pos 0 }
+    requires under_last { form_of tableau.now row last <ℤ pos 0 }
+    ensures { result ≡ int_cmp (form_of tableau.now at last *ℤ neg_ℤ (form_of tableau.now row column)) (form_of tableau.now at column *ℤ neg_ℤ (form_of tableau.now row last)) }
+{
+    compare_ratios(
+        tableau.number(at, last),
+        -tableau.number(row, last),
+        tableau.number(at, column),
+        -tableau.number(row, column),
+    )
 }
 
 /// The first column, before the value's, along which the value falls.
@@ -109,54 +227,91 @@ fn column_to_raise(lp: &Lp, tableau: &Tableau) -> Option<usize>
     None
 }
 
-/// The row that leaves the basis where a column is raised: of those above zero there one with the
-/// least quotient of right side by number, and among these the one whose column is first.
-fn row_to_leave(lp: &Lp, tableau: &Tableau, column: usize) -> Option<usize>
+/// The row that leaves the basis where a column is raised: of those above zero there the one with
+/// the lowest vector by its number.
+fn row_to_leave(lp: &Lp, tableau: &Tableau, start: &[u32], column: usize) -> Option<usize>
     requires lp { IsLp lp.now }
     requires kept { IsTableau (program_of lp.now) tableau.now }
+    requires start { IsStart (program_of lp.now) start.now }
     requires column { column < value_column (program_of lp.now) }
-    ensures { MatchOption result ((i : ℕ) → i < length lp.now.rows.items → form_of tableau.now i column ≤ℤ pos 0) (IsLeast (length lp.now.rows.items) (form_of tableau.now) (right_column (program_of lp.now)) column) }
+    requires falls { pos 0 <ℤ form_of tableau.now (length lp.now.rows.items) column }
+    ensures { MatchOption result ((i : ℕ) → i < length lp.now.rows.items → form_of tableau.now i column ≤ℤ pos 0) (λ row. IsPrimalDue (program_of lp.now) (λ i. slice_index start.now i) (form_of tableau.now) row column) }
 {
-    let right = right_of(lp);
     let mut best = None;
     for i in 0..lp.rows.len() {
         if tableau.number(i, column) > 0 {
-            best = Some(better(tableau, best, i, column, right));
+            best = Some(better_row(lp, tableau, start, best, i, column));
         }
     }
     best
 }
 
 /// The better of two rows to leave the basis.
-fn better(tableau: &Tableau, best: Option<usize>, row: usize, column: usize, right: usize) -> usize
-    requires row { row < length tableau.now.basis }
-    requires column { column < tableau.now.width }
-    requires right { right < tableau.now.width }
+fn better_row(
+    lp: &Lp,
+    tableau: &Tableau,
+    start: &[u32],
+    best: Option<usize>,
+    row: usize,
+    column: usize,
+) -> usize
+    requires lp { IsLp lp.now }
+    requires kept { IsTableau (program_of lp.now) tableau.now }
+    requires start { IsStart (program_of lp.now) start.now }
+    requires row { row < length lp.now.rows.items }
+    requires column { column < value_column (program_of lp.now) }
     requires above { pos 0 <ℤ form_of tableau.now row column }
-    requires best { MatchOption best (Unit {0}) (λ last. (last < length tableau.now.basis) × (pos 0 <ℤ form_of tableau.now last column)) }
-    ensures { MatchOption best (result ≡ row) (λ last. ((result ≡ row) × IsNoGreater (form_of tableau.now) right column row last) ⊎ ((result ≡ last) × IsNoGreater (form_of tableau.now) right column last row)) }
+    requires best { MatchOption best (Unit {0}) (λ last. (last < length lp.now.rows.items) × (pos 0 <ℤ form_of tableau.now last column)) }
+    ensures { MatchOption best (result ≡ row) (λ last. ((result ≡ row) × IsRowBelow (program_of lp.now) (λ i. slice_index start.now i) (form_of tableau.now) column row last) ⊎ ((result ≡ last) × (IsRowBelow (program_of lp.now) (λ i. slice_index start.now i) (form_of tableau.now) column row last → ⊥))) }
 {
     match best {
-        Some(last) if !is_better(tableau, row, last, column, right) => last,
+        Some(last) if !is_lower_row(lp, tableau, start, row, last, column) => last,
         _ => row,
     }
 }
 
-/// Whether a row is better than another one to leave the basis.
-fn is_better(tableau: &Tableau, row: usize, last: usize, column: usize, right: usize) -> bool
-    requires row { row < length tableau.now.basis }
-    requires last { last < length tableau.now.basis }
-    requires column { column < tableau.now.width }
-    requires right { right < tableau.now.width }
+/// Whether a row's vector by its number is lower than another one's.
+fn is_lower_row(
+    lp: &Lp,
+    tableau: &Tableau,
+    start: &[u32],
+    row: usize,
+    last: usize,
+    column: usize,
+) -> bool
+    requires lp { IsLp lp.now }
+    requires kept { IsTableau (program_of lp.now) tableau.now }
+    requires start { IsStart (program_of lp.now) start.now }
+    requires row { row < length lp.now.rows.items }
+    requires last { last < length lp.now.rows.items }
+    requires column { column < value_column (program_of lp.now) }
     requires above { pos 0 <ℤ form_of tableau.now row column }
     requires above_last { pos 0 <ℤ form_of tableau.now last column }
-    ensures yes { result ≡ true → IsNoGreater (form_of tableau.now) right column row last }
-    ensures no { result ≡ false → IsNoGreater (form_of tableau.now) right column last row }
+    ensures yes { result ≡ true → IsRowBelow (program_of lp.now) (λ i. slice_index start.now i) (form_of tableau.now) column row last }
+    ensures no { result ≡ false → IsRowBelow (program_of lp.now) (λ i. slice_index start.now i) (form_of tableau.now) column row last → ⊥ }
 {
-    match compare_at(tableau, row, last, column, right) {
-        Ordering::Less => true,
-        Ordering::Equal => tableau.own(row) < tableau.own(last),
-        Ordering::Greater => false,
+    for k in 0..lp.rows.len() + 1 {
+        match compare_at(tableau, row, last, column, place_at(lp, start, k)) {
+            Ordering::Less => return true,
+            Ordering::Greater => return false,
+            Ordering::Equal => {}
+        }
+    }
+    false
+}
+
+/// The column that comes at this place of a vector.
+fn place_at(lp: &Lp, start: &[u32], k: usize) -> usize
+    requires lp { IsLp lp.now }
+    requires start { IsStart (program_of lp.now) start.now }
+    requires k { k ≤ length lp.now.rows.items }
+    ensures place { result ≡ place (program_of lp.now) (λ i. slice_index start.now i) k }
+    ensures inside { result ≤ right_column (program_of lp.now) }
+{
+    if k == 0 {
+        right_of(lp)
+    } else {
+        start[k - 1] as usize
     }
 }
 
@@ -170,9 +325,21 @@ fn compare_at(tableau: &Tableau, row: usize, other: usize, column: usize, at: us
     requires above_other { pos 0 <ℤ form_of tableau.now other column }
     ensures { result ≡ int_cmp (form_of tableau.now row at *ℤ form_of tableau.now other column) (form_of tableau.now other at *ℤ form_of tableau.now row column) }
 {
-    let quotient = quotient_of(tableau.number(row, at), tableau.number(row, column));
-    let other_quotient = quotient_of(tableau.number(other, at), tableau.number(other, column));
-    quotient.compare(other_quotient)
+    compare_ratios(
+        tableau.number(row, at),
+        tableau.number(row, column),
+        tableau.number(other, at),
+        tableau.number(other, column),
+    )
+}
+
+/// The order of two quotients, whose denominators are above zero. No step is too wide.
+fn compare_ratios(num: i128, den: i128, other: i128, other_den: i128) -> Ordering
+    requires ratio { IsRatio num den }
+    requires other_ratio { IsRatio other other_den }
+    ensures { result ≡ int_cmp (num *ℤ other_den) (other *ℤ den) }
+{
+    quotient_of(num, den).compare(quotient_of(other, other_den))
 }
 
 /// A number over another one, which is above zero.

@@ -2,6 +2,7 @@
 #![tactic(auto)]
 
 mod basic;
+mod binary;
 mod choose;
 mod columns;
 mod listed;

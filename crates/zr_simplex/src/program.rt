@@ -18,11 +18,12 @@ pub struct Lp {
 /// numbers of at least 1; what isn't listed is zero.
 #[derive(Debug, Drop)]
 pub enum LpAnswer {
-    /// The point meets the rows and has the least value: `scale` times the aim and the rows times
-    /// `mult` are together `extra`, and the right sides times `mult` are `-scale` times that value.
+    /// The point meets the rows and has the least value, `value / scale`: `scale` times the aim and
+    /// the rows times `mult` are together `extra`, and the right sides times `mult` are `-value`.
     Best {
         point: Point,
         scale: i128,
+        value: i128,
         mult: Vec<(u32, i128)>,
         extra: Vec<(u32, i128)>,
     },
@@ -45,8 +46,6 @@ pub enum LpAnswer {
 pub enum Stop {
     /// Want of memory.
     NoMemory,
-    /// A pivot was due, and the purse was at its limit.
-    Spent,
     /// A step at a basis was too wide.
     Wide(Stuck),
 }

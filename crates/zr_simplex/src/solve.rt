@@ -1,19 +1,20 @@
 ghost use Rattle.std.specs.Prelude.{◌≡◌, ◌≢◌, ◌<◌, ◌+◌, ◌≤◌, ℕ, ℤ, pos, ◌≤ℤ◌, length, IfOk, IfErr, OnOk, OnErr};
 ghost use Rattle.zr_base.specs.Terms.{Ascends};
-ghost use Rattle.zr_io.specs.declared.purse.Purse.{Purse as APurse};
-ghost use Rattle.zr_simplex.specs.Programs.{IsLp, program_of};
-ghost use Rattle.zr_basis.specs.BasicForms.{right_column, value_column};
 ghost use Rattle.zr_basis.specs.Bases.{Exchanges};
-ghost use Rattle.zr_simplex.specs.Pivots.{IsReached};
+ghost use Rattle.zr_basis.specs.BasicForms.{right_column, value_column};
+ghost use Rattle.zr_io.specs.Purses.{Spends};
+ghost use Rattle.zr_io.specs.declared.purse.Unit.TheVariants.{Pivot as IsPivot};
+ghost use Rattle.zr_simplex.specs.Programs.{IsLp, program_of};
 ghost use Rattle.zr_simplex.specs.StuckSteps.{IsWidePivot};
 ghost use Rattle.zr_simplex.specs.Answers.{AreListed, AreOf, IsAnswer, IsBasicAnswer, signed};
-ghost use Rattle.zr_simplex.specs.Causes.{IsCause, IsReachedAnswer, PaysPivots, paid};
+ghost use Rattle.zr_simplex.specs.Causes.{CountsFew, IsCause, IsEndStep, IsReachedAnswer};
 ghost use Rattle.zr_simplex.specs.Tableaus.{basis_of, form_of};
-ghost use Rattle.zr_simplex.specs.Dues.{IsNext, IsOver, IsTableau};
-ghost use Rattle.zr_simplex.specs.Halts.{IsMiss};
+ghost use Rattle.zr_simplex.specs.Dues.{IsEnd, IsTableau};
+ghost use Rattle.zr_simplex.specs.Halts.{HasRun, IsMiss, IsMissAfter};
 
 use crate::basic::{Miss, point_of, ray_of};
-use crate::choose::{Due, what_is_due};
+use crate::binary::{raise, zero_digits};
+use crate::choose::{Due, next_due};
 use crate::listed::listed;
 use crate::pivot::Place;
 use crate::program::{Lp, LpAnswer, Stop};
@@ -55,17 +56,17 @@ fn multipliers(
 fn answer(alloc: Global, lp: &Lp, tableau: &Tableau, due: Due) -> Result<LpAnswer, Miss>
     requires lp { IsLp lp.now }
     requires kept { IsTableau (program_of lp.now) tableau.now }
-    requires due { IsNext (program_of lp.now) (form_of tableau.now) due }
-    requires over { IsOver due }
+    requires end { IsEnd (program_of lp.now) (form_of tableau.now) due }
     ensures answer { IfOk result (IsAnswer lp.now) }
     ensures basic { IfOk result (IsBasicAnswer (program_of lp.now) (basis_of tableau.now) (form_of tableau.now)) }
-    ensures halts { IfErr result (IsMiss (program_of lp.now) (basis_of tableau.now) (form_of tableau.now)) }
+    ensures halts { IfErr result (IsMiss (program_of lp.now) (basis_of tableau.now) (form_of tableau.now) (IsEndStep (program_of lp.now) (form_of tableau.now))) }
 {
     let value = lp.rows.len();
     match due {
         Due::Best => {
             let point = point_of(alloc, lp, tableau)?;
             let scale = tableau.number(value, lp.columns as usize + value);
+            let least = tableau.number(value, lp.columns as usize + value + 1);
             let (mult, extra) = match multipliers(alloc, lp, tableau, value, true) {
                 Ok(lists) => lists,
                 Err(_) => return Err(Miss::NoMemory),
@@ -73,6 +74,7 @@ fn answer(alloc: Global, lp: &Lp, tableau: &Tableau, due: Due) -> Result<LpAnswe
             Ok(LpAnswer::Best {
                 point,
                 scale,
+                value: least,
                 mult,
                 extra,
             })
@@ -108,24 +110,93 @@ fn turn(lp: &Lp, tableau: &mut Tableau, row: usize, column: usize) -> Result<(),
     tableau.pivot(row, column)
 }
 
-/// The answer, or what stops it, at a basis where no pivot is due.
-fn finish(alloc: Global, lp: &Lp, tableau: Tableau, due: Due) -> Result<LpAnswer, Stop>
+/// One pivot, which is counted when it was made.
+fn counted_turn(
+    lp: &Lp,
+    tableau: &mut Tableau,
+    purse: &mut Purse,
+    row: usize,
+    column: usize,
+) -> Result<(), Place>
     requires lp { IsLp lp.now }
-    requires kept { IsTableau (program_of lp.now) tableau }
-    requires due { IsNext (program_of lp.now) (form_of tableau) due }
-    requires over { IsOver due }
-    ensures answer { IfOk result (IsAnswer lp.now) }
-    ensures basic { IfOk result (IsBasicAnswer (program_of lp.now) (basis_of tableau) (form_of tableau)) }
-    ensures cause { (old new : APurse) → IsReached (program_of lp.now) (paid old new) (basis_of tableau) → IfErr result (IsCause (program_of lp.now) old new) }
+    requires kept { IsTableau (program_of lp.now) tableau.old }
+    requires row { row < length lp.now.rows.items }
+    requires column { column < value_column (program_of lp.now) }
+    requires apart { form_of tableau.old row column ≢ pos 0 }
+    ensures kept { OnOk result (IsTableau (program_of lp.now) tableau.new) }
+    ensures exchanges { OnOk result (Exchanges (basis_of tableau.old) row column (basis_of tableau.new)) }
+    ensures counts { OnOk result (Spends purse.old purse.new IsPivot) }
+    ensures err { OnErr result (tableau.new.basis ≡ tableau.old.basis) }
+    ensures none { OnErr result (purse.new ≡ purse.old) }
+    ensures wide { IfErr result (λ place. (place.row ≤ length lp.now.rows.items) × (place.row ≢ row) × (place.column ≤ right_column (program_of lp.now)) × IsWidePivot (form_of tableau.old row) (form_of tableau.old place.row) column place.column place.wide) }
 {
-    match answer(alloc, lp, &tableau, due) {
-        Ok(found) => Ok(found),
-        Err(Miss::NoMemory) => Err(Stop::NoMemory),
-        Err(Miss::Wide(step, wide)) => Err(Stop::Wide(Stuck {
-            basis: tableau.into_basis(),
-            step,
-            wide,
-        })),
+    match turn(lp, tableau, row, column) {
+        Ok(()) => {
+            let _ = purse.spend(Unit::Pivot);
+            Ok(())
+        }
+        Err(place) => Err(place),
+    }
+}
+
+/// Pivots by the rules until none is due: what ends the method. They are counted in binary too, with
+/// a digit for each column, as they are fewer than the ways to choose a basis.
+fn run(alloc: Global, lp: &Lp, tableau: &mut Tableau, purse: &mut Purse) -> Result<Due, Miss>
+    requires lp { IsLp lp.now }
+    requires kept { IsTableau (program_of lp.now) tableau.old }
+    requires slacks { (i : ℕ) → i ≤ length lp.now.rows.items → basis_of tableau.old i ≡ lp.now.columns + i }
+    ensures kept { OnOk result (IsTableau (program_of lp.now) tableau.new) }
+    ensures end { IfOk result (IsEnd (program_of lp.now) (form_of tableau.new)) }
+    ensures run { OnOk result (HasRun (program_of lp.now) purse.old purse.new (basis_of tableau.new) (form_of tableau.new)) }
+    ensures count { length tableau.new.basis ≡ length lp.now.rows.items + 1 }
+    ensures few { CountsFew (program_of lp.now) purse.old purse.new }
+    ensures miss { IfErr result (IsMissAfter (program_of lp.now) purse.old purse.new (basis_of tableau.new)) }
+{
+    let mut start = None;
+    let mut count = match zero_digits(alloc, lp.columns as usize + lp.rows.len()) {
+        Ok(count) => count,
+        Err(_) => return Err(Miss::NoMemory),
+    };
+    'pivots: loop {
+        let due = match next_due(alloc, lp, tableau, &mut start) {
+            Ok(due) => due,
+            Err(_) => return Err(Miss::NoMemory),
+        };
+        let Due::Pivot(row, column) = due else {
+            return Ok(due);
+        };
+        if let Err(place) = counted_turn(lp, tableau, purse, row, column) {
+            let step = Step::Pivot {
+                row: row as u32,
+                col: column as u32,
+                at_row: place.row as u32,
+                at_col: place.column as u32,
+            };
+            return Err(Miss::Wide(step, place.wide));
+        }
+        raise(&mut count);
+    }
+}
+
+/// The answer to which pivots by the rules lead, or what stops it.
+fn solve(
+    alloc: Global,
+    lp: &Lp,
+    tableau: &mut Tableau,
+    purse: &mut Purse,
+) -> Result<LpAnswer, Miss>
+    requires lp { IsLp lp.now }
+    requires kept { IsTableau (program_of lp.now) tableau.old }
+    requires slacks { (i : ℕ) → i ≤ length lp.now.rows.items → basis_of tableau.old i ≡ lp.now.columns + i }
+    ensures answer { IfOk result (IsAnswer lp.now) }
+    ensures basic { IfOk result (IsReachedAnswer (program_of lp.now) purse.old purse.new) }
+    ensures count { length tableau.new.basis ≡ length lp.now.rows.items + 1 }
+    ensures few { CountsFew (program_of lp.now) purse.old purse.new }
+    ensures miss { IfErr result (IsMissAfter (program_of lp.now) purse.old purse.new (basis_of tableau.new)) }
+{
+    match run(alloc, lp, tableau, purse) {
+        Ok(due) => answer(alloc, lp, tableau, due),
+        Err(miss) => Err(miss),
     }
 }
 
@@ -133,46 +204,35 @@ fn finish(alloc: Global, lp: &Lp, tableau: Tableau, due: Due) -> Result<LpAnswer
 /// rows, or that there is no least value.
 ///
 /// By the simplex method (G. Dantzig, 1947) on equations in whole numbers without common divisors,
-/// from the basis of the slacks. A right side below zero is mended first; then the column that is
-/// raised, and the one that leaves the basis, are the first that qualify (R. Bland, 1977).
+/// from the basis of the slacks. While a right side is below zero, pivots go by the dual method
+/// (C. Lemke, 1954) for the aim that the columns be least in their order; then by the primal one, in
+/// which the first column enters along which the value falls. In both the lexicographic order breaks
+/// ties (A. Charnes, 1952; G. Dantzig, A. Orden and P. Wolfe, 1955), so that no basis comes twice: the
+/// pivots are fewer than the ways to choose a column for each row. The purse counts each pivot when
+/// it has been made; no limit holds for them.
 ///
 /// # Errors
 ///
-/// `Spent` where a pivot is due and the purse is at its limit; each pivot is paid for before it is
-/// made. `Wide` where a step at a basis is too wide, with that basis and step. `NoMemory` for want
-/// of memory.
+/// `Wide` where a step at a basis is too wide, with that basis and step. `NoMemory` for want of
+/// memory.
 pub fn solve_lp(alloc: Global, lp: &Lp, purse: &mut Purse) -> Result<LpAnswer, Stop>
     requires { IsLp lp.now }
     ensures answer { IfOk result (IsAnswer lp.now) }
-    ensures basic { IfOk result (IsReachedAnswer (program_of lp.now) (paid purse.old purse.new)) }
+    ensures basic { IfOk result (IsReachedAnswer (program_of lp.now) purse.old purse.new) }
     ensures cause { IfErr result (IsCause (program_of lp.now) purse.old purse.new) }
-    ensures purse { PaysPivots purse.old purse.new }
+    ensures few { CountsFew (program_of lp.now) purse.old purse.new }
 {
     let mut tableau = match start(alloc, lp) {
         Ok(tableau) => tableau,
         Err(_) => return Err(Stop::NoMemory),
     };
-    'pivots: loop {
-        let due = what_is_due(lp, &tableau);
-        match due {
-            Due::Pivot(row, column) => {
-                if purse.spend(Unit::Pivot).is_err() {
-                    return Err(Stop::Spent);
-                }
-                if let Err(place) = turn(lp, &mut tableau, row, column) {
-                    return Err(Stop::Wide(Stuck {
-                        basis: tableau.into_basis(),
-                        step: Step::Pivot {
-                            row: row as u32,
-                            col: column as u32,
-                            at_row: place.row as u32,
-                            at_col: place.column as u32,
-                        },
-                        wide: place.wide,
-                    }));
-                }
-            }
-            _ => return finish(alloc, lp, tableau, due),
-        }
+    match solve(alloc, lp, &mut tableau, purse) {
+        Ok(found) => Ok(found),
+        Err(Miss::NoMemory) => Err(Stop::NoMemory),
+        Err(Miss::Wide(step, wide)) => Err(Stop::Wide(Stuck {
+            basis: tableau.into_basis(),
+            step,
+            wide,
+        })),
     }
 }

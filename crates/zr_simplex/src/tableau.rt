@@ -93,6 +93,13 @@ impl Tableau {
     }
 
     /// The basis.
+    pub(crate) fn basis(&self) -> &[u32]
+        ensures { result.now ≡ self.now.basis }
+    {
+        &self.basis
+    }
+
+    /// The basis.
     pub(crate) fn into_basis(self) -> Vec<u32>
         ensures { result.items ≡ self.basis }
     {

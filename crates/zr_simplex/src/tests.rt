@@ -5,6 +5,7 @@ mod made;
 use crate::program::{Lp, LpAnswer, Stop};
 use crate::solve::solve_lp;
 use std::test::Fail;
+use zr_base::Frac;
 use zr_io::Purse;
 use zr_lin::Ineq;
 
@@ -41,10 +42,12 @@ fn the_least_value_is_reached(rt: HostRuntime) -> Result<(), Fail> {
             LpAnswer::Best {
                 point,
                 scale,
+                value,
                 mult,
                 extra,
             },
         ) => {
+            assert_eq!(rt; value, -5);
             assert_eq!(rt; point.len(), 1);
             assert_eq!(rt; (point.num(0), point.den()), (5, 2));
             assert_eq!(rt; scale, 2);
@@ -92,10 +95,13 @@ fn the_value_falls_without_end(rt: HostRuntime) -> Result<(), Fail> {
 }
 
 #[test]
-fn a_purse_at_its_limit_pays_no_pivot(rt: HostRuntime) -> Result<(), Fail> {
+fn a_purse_with_no_unit_left_counts_pivots(rt: HostRuntime) -> Result<(), Fail> {
     match one_column(&rt, 2, 5, -1, 0)? {
-        Err(Stop::Spent) => Ok(()),
-        _ => Err(Fail::from("not spent")),
+        Ok(LpAnswer::Best { scale, value, .. }) => {
+            assert_eq!(rt; (value, scale), (-5, 2));
+            Ok(())
+        }
+        _ => Err(Fail::from("not best")),
     }
 }
 
@@ -128,6 +134,81 @@ fn ties_end_at_the_point(rt: HostRuntime) -> Result<(), Fail> {
     match solve_lp(alloc, &lp, &mut purse) {
         Ok(LpAnswer::Best { point, .. }) => {
             assert_eq!(rt; (point.num(0), point.num(1)), (point.den(), point.den()));
+            Ok(())
+        }
+        _ => Err(Fail::from("not best")),
+    }
+}
+
+#[test]
+fn beales_degenerate_program_ends(rt: HostRuntime) -> Result<(), Fail> {
+    let alloc = rt.alloc();
+    let rows = vec![in alloc;
+        Ineq {
+            coef: vec![in alloc; (0, 25), (1, -6000), (2, -4), (3, 900)]?,
+            le: 0,
+            strict: false
+        },
+        Ineq {
+            coef: vec![in alloc; (0, 50), (1, -9000), (2, -2), (3, 300)]?,
+            le: 0,
+            strict: false
+        },
+        Ineq {
+            coef: vec![in alloc; (2, 1)]?,
+            le: 1,
+            strict: false
+        },
+    ]?;
+    let lp = Lp {
+        columns: 4,
+        rows,
+        aim: vec![in alloc; -75, 15000, -2, 600]?,
+    };
+    let mut purse = Purse::new(0);
+    match solve_lp(alloc, &lp, &mut purse) {
+        Ok(LpAnswer::Best { scale, value, .. }) => {
+            assert_eq!(rt; Frac::new(value, scale), Frac::new(-5, 1));
+            Ok(())
+        }
+        _ => Err(Fail::from("not best")),
+    }
+}
+
+#[test]
+fn a_program_that_cycles_by_first_rows_ends(rt: HostRuntime) -> Result<(), Fail> {
+    let alloc = rt.alloc();
+    let rows = vec![in alloc;
+        Ineq {
+            coef: vec![in alloc; (0, -1), (1, 2), (2, -4), (3, 2), (4, -3)]?,
+            le: 0,
+            strict: false
+        },
+        Ineq {
+            coef: vec![in alloc; (0, -3), (1, 1), (3, -3), (4, -2)]?,
+            le: 0,
+            strict: false
+        },
+        Ineq {
+            coef: vec![in alloc; (0, -1), (1, 4), (2, 2), (3, 3), (4, -1)]?,
+            le: 0,
+            strict: false
+        },
+        Ineq {
+            coef: vec![in alloc; (0, 1), (1, 1), (2, 1), (3, 1), (4, 1)]?,
+            le: 1,
+            strict: false
+        },
+    ]?;
+    let lp = Lp {
+        columns: 5,
+        rows,
+        aim: vec![in alloc; 1, 1, 4, -3, -1]?,
+    };
+    let mut purse = Purse::new(0);
+    match solve_lp(alloc, &lp, &mut purse) {
+        Ok(LpAnswer::Best { scale, value, .. }) => {
+            assert_eq!(rt; Frac::new(value, scale), Frac::new(-3, 2));
             Ok(())
         }
         _ => Err(Fail::from("not best")),

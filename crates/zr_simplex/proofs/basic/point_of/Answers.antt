@@ -29,4 +29,4 @@ returns-in-Ok-clause-point c =
 pub returns-in-Err-Wide-clause-halts : goal.returns-in-Err-Wide-clause-halts
 returns-in-Err-Wide-clause-halts c =
     let e : c.len.result ≡ length c.args.lp.now.rows.items = search rules in
-    (rw e at (rw c.in-Err-Wide.field-0-is at c.in-Err-Wide.ensures.halts), refl)
+    (rw e at (rw c.in-Err-Wide.field-0-is at c.in-Err-Wide.ensures.halts), tt)

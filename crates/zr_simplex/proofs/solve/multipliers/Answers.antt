@@ -12,5 +12,6 @@ returns-clause-listed c =
     record {
       multipliers = rw e at c.in_ok-mult.ensures.multipliers;
       extras = c.in_ok-extra.ensures.multipliers;
+      narrow = (rw e at c.in_ok-mult.ensures.ascends, c.in_ok-extra.ensures.ascends);
       apart = lists_apart c.args.lp.now c.requires.lp c.args.tableau.now c.requires.kept c.args.row c.args.negated c.in_ok-mult.mult.items c.in_ok-extra.extra.items c.requires.row c.requires.sign of;
     }

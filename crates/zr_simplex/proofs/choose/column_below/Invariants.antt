@@ -1,6 +1,0 @@
-use Rattle.std.proofs.Common.{◌<◌, ℕ, pos, ◌≤ℤ◌}
-use Rattle.zr_simplex.specs.Tableaus.{form_of}
-use Rattle.zr_simplex.proofs.choose.column_below.Given as goal
-
-abbrev pub invariant-loop-j : goal.invariant-loop-j
-invariant-loop-j l = (k : ℕ) → k < l.j → (pos 0) ≤ℤ form_of l.tableau l.row k
