@@ -14,16 +14,24 @@ pub vars_len : (player : Player) → vec_len player.vars ≡ length (player_of p
 vars_len player = player.vars.ok.0 ∙ sym (length-map player.vars.items var_of)
 
 -- a variable below the count of player k
-pub has_told : (game : GameOf) (counts : List ℕ) (k v : ℕ) → map var_count game ≡ counts → k < length counts → IsTrue (ltb v (get_or counts k 0)) ↔ ((k < length game) × HasVar game k v)
+pub has_told : (game : GameOf) (counts : List ℕ) (k v : ℕ) → map var_count game ≡ counts
+    → k < length counts → IsTrue (ltb v (get_or counts k 0)) ↔ ((k < length game) × HasVar game k v)
 has_told game counts k v e below =
-    let there : k < length game = subst (λ (n : ℕ). k < n) (sym (ap length e) ∙ length-map game var_count) below in
+    let there : k < length game = subst (λ (n : ℕ). k < n) (sym (ap length e) ∙
+    length-map game var_count) below in
     let p = at_number game k there in
-    let count : get_or counts k 0 ≡ length p.0.vars = ap (λ (ns : List ℕ). get_or ns k 0) (sym e) ∙ count_at game k p.0 p.1 in (
-      λ h. (there, λ player is. subst (λ (q : PlayerOf). v < length q.vars) (one game k p.0 player p.1 is) (test h count)),
+    let count : get_or counts k 0 ≡ length p.0.vars = ap (λ (ns : List ℕ). get_or ns k 0) (sym e) ∙
+    count_at game k p.0 p.1 in (
+      λ h. (
+        there,
+        λ player is. subst (λ (q : PlayerOf). v < length q.vars)
+            (one game k p.0 player p.1 is) (test h count),
+      ),
       λ h. back (h.1 p.0 p.1) count,
     )
   where
-    count_at : (game : GameOf) (k : ℕ) (player : PlayerOf) → IsPlayer game k player → get_or (map var_count game) k 0 ≡ length player.vars
+    count_at : (game : GameOf) (k : ℕ) (player : PlayerOf) → IsPlayer game k player
+        → get_or (map var_count game) k 0 ≡ length player.vars
     count_at [] k player is = absurd cc
     count_at (q ∷ game) zero player is = let s : q ≡ player = cc in ap var_count s
     count_at (q ∷ game) (suc k) player is = count_at game k player is
@@ -34,7 +42,8 @@ has_told game counts k v e below =
     back : {m n : ℕ} → v < m → n ≡ m → IsTrue (ltb v n)
     back h e = grind (arith, nat_tests)
 
-pub has_none : (game : GameOf) (counts : List ℕ) (k v : ℕ) → map var_count game ≡ counts → length counts ≤ k → IsTrue (ltb k (length counts)) ↔ ((k < length game) × HasVar game k v)
+pub has_none : (game : GameOf) (counts : List ℕ) (k v : ℕ) → map var_count game ≡ counts
+    → length counts ≤ k → IsTrue (ltb k (length counts)) ↔ ((k < length game) × HasVar game k v)
 has_none game counts k v e above =
     let len = sym (ap length e) ∙ length-map game var_count in
     (λ h. absurd (past (length counts) h above), λ h. let q = h.0 in absurd (omega (arith, len, q)))
@@ -48,15 +57,22 @@ module _ {A : Type 0} (g : A → PlayerOf) (xs : List A) where
   abbrev pub Counted : ℕ → List ℕ → Type 0
   Counted i out = take i out ≡ map (λ x. var_count (g x)) (take i xs)
 
-  pub more_counted : (i : ℕ) (out : List ℕ) (x : A) (n : ℕ) → i < length xs → i < length out → x ≡ get_or xs i x → n ≡ var_count (g x) → Counted i out → Counted (i + 1) (set out i n)
+  pub more_counted : (i : ℕ) (out : List ℕ) (x : A) (n : ℕ) → i < length xs → i < length out
+      → x ≡ get_or xs i x → n ≡ var_count (g x) → Counted i out → Counted (i + 1) (set out i n)
   more_counted i out x n here room is e before =
-      let last : map (λ y. var_count (g y)) (take (i + 1) xs) ≡ map (λ y. var_count (g y)) (take i xs) ++ var_count (g (get_or xs i x)) ∷ [] = ap (map (λ y. var_count (g y))) (take_more xs i x here) ∙ map-append (λ y. var_count (g y)) (take i xs) (get_or xs i x ∷ []) in
-      take_more_set out i n room ∙ ap₂ (λ (ns : List ℕ) (m : ℕ). ns ++ m ∷ []) before (e ∙ ap (λ (y : A). var_count (g y)) is) ∙ sym last
+      let last : map (λ y. var_count (g y)) (take (i + 1) xs) ≡ map (λ y. var_count (g y))
+      (take i xs) ++ var_count (g (get_or xs i x)) ∷ [] = ap (map (λ y. var_count (g y)))
+      (take_more xs i x here) ∙ map-append (λ y. var_count (g y)) (take i xs)
+      (get_or xs i x ∷ []) in
+      take_more_set out i n room ∙ ap₂ (λ (ns : List ℕ) (m : ℕ). ns ++ m ∷ []) before (e ∙
+      ap (λ (y : A). var_count (g y)) is) ∙ sym last
 
-  pub all_counted : (i : ℕ) (out : List ℕ) → length xs ≤ i → i ≤ length xs → Counted i out → take (length xs) out ≡ map var_count (map g xs)
+  pub all_counted : (i : ℕ) (out : List ℕ) → length xs ≤ i → i ≤ length xs → Counted i out
+      → take (length xs) out ≡ map var_count (map g xs)
   all_counted i out above below counted =
       let end : i ≡ length xs = omega arith in
-      ap (λ (m : ℕ). take m out) (sym end) ∙ counted ∙ ap (map (λ x. var_count (g x))) (take_all i xs above) ∙ fused xs
+      ap (λ (m : ℕ). take m out) (sym end) ∙ counted ∙
+      ap (map (λ x. var_count (g x))) (take_all i xs above) ∙ fused xs
     where
       fused : (ys : List A) → map (λ x. var_count (g x)) ys ≡ map var_count (map g ys)
       fused [] = refl

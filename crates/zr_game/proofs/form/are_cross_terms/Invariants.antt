@@ -7,4 +7,5 @@ use Rattle.zr_game.proofs.form.are_cross_terms.Given as goal
 
 abbrev pub invariant-loop-t : goal.invariant-loop-t
 invariant-loop-t l =
-    (game : GameOf) → map var_count game ≡ l.counts → Checked l.t-index (λ v t. IsCrossForm game l.i l.columns t) l.cross l.all
+    (game : GameOf) → map var_count game ≡ l.counts
+    → Checked l.t-index (λ v t. IsCrossForm game l.i l.columns t) l.cross l.all

@@ -18,7 +18,8 @@ loop-t-preserved c game are =
     let within = c.loop-t-test.true in
     let found = get_or_default terms at d t within in
     more_checked (λ v t. IsOtherForm game c.args.i t) terms at t within
-    found c.loop-t.all (c.loop-t.invariant game are) c.is_other-all.result (c.is_other-all.ensures game are)
+    found c.loop-t.all (c.loop-t.invariant game are) c.is_other-all.result
+    (c.is_other-all.ensures game are)
 
 pub returns : goal.returns
 returns c game are =

@@ -9,8 +9,12 @@ loop-row-init c = none_checked (λ v row. IsRowForm c.args.columns (row_of row))
 
 pub loop-row-preserved : goal.loop-row-preserved
 loop-row-preserved c =
-    more_checked (λ v row. IsRowForm c.args.columns (row_of row)) c.args.rows.now c.loop-row.row-index c.row-item.result c.loop-row-test.true c.row-item.is c.loop-row.all c.loop-row.invariant c.is_row-all.result c.is_row-all.ensures
+    more_checked (λ v row. IsRowForm c.args.columns (row_of row)) c.args.rows.now
+    c.loop-row.row-index c.row-item.result c.loop-row-test.true c.row-item.is c.loop-row.all
+    c.loop-row.invariant c.is_row-all.result c.is_row-all.ensures
 
 pub returns : goal.returns
 returns c =
-    all_mapped row_of (IsRowForm c.args.columns) c.args.rows.now c.loop-row.all (all_checked (λ v row. IsRowForm c.args.columns (row_of row)) c.args.rows.now c.loop-row.row-index c.loop-row.all (omega arith) (omega arith) c.loop-row.invariant)
+    all_mapped row_of (IsRowForm c.args.columns) c.args.rows.now c.loop-row.all
+    (all_checked (λ v row. IsRowForm c.args.columns (row_of row)) c.args.rows.now
+    c.loop-row.row-index c.loop-row.all (omega arith) (omega arith) c.loop-row.invariant)

@@ -10,9 +10,14 @@ loop-column-init c = record { left = (λ h. h.1, λ h. (refl, h)) }
 
 pub loop-column-preserved : goal.loop-column-preserved
 loop-column-preserved c =
-    let n : FitsSigned w64 (get_or c.args.coef.now c.loop-column.column-index (0, pos 0)).1 = search rules in
-    next_ascending IsCoefficient c.args.columns c.args.coef.now c.loop-column.column-index c.loop-column.low c.loop-column.all c.is_next_term-all.result (0, pos 0) c.loop-column-test.true c.loop-column.invariant (simp to_z-of_z at c.is_next_term-all.ensures)
+    let n : FitsSigned w64 (get_or c.args.coef.now c.loop-column.column-index (0, pos 0)).1 = search
+    rules in
+    next_ascending IsCoefficient c.args.columns c.args.coef.now c.loop-column.column-index
+    c.loop-column.low c.loop-column.all c.is_next_term-all.result (0, pos 0)
+    c.loop-column-test.true c.loop-column.invariant
+    (simp to_z-of_z at c.is_next_term-all.ensures)
 
 pub returns : goal.returns
 returns c =
-    all_ascending IsCoefficient c.args.columns c.args.coef.now c.loop-column.column-index c.loop-column.low c.loop-column.all c.loop-column-test.false c.loop-column.invariant
+    all_ascending IsCoefficient c.args.columns c.args.coef.now c.loop-column.column-index
+    c.loop-column.low c.loop-column.all c.loop-column-test.false c.loop-column.invariant

@@ -18,4 +18,5 @@ loop-k-preserved c =
 pub returns : goal.returns
 returns c =
     let end = c.loop-k-test.false in
-    in_order cross_order cross_follows c.args.cross.now c.loop-k.k c.loop-k.all end c.loop-k.invariant
+    in_order cross_order cross_follows c.args.cross.now c.loop-k.k c.loop-k.all end
+    c.loop-k.invariant

@@ -12,8 +12,10 @@ loop-i-preserved c =
     let count = c.len.ensures ∙ vars_len x in
     record {
       len = length-set c.loop-i.counts c.loop-i.i c.len.result ∙ c.loop-i.invariant.len;
-      counted = more_counted player_of c.args.players.now c.loop-i.i c.loop-i.counts x c.len.result here room c.index-players-i.is count c.loop-i.invariant.counted;
+      counted = more_counted player_of c.args.players.now c.loop-i.i c.loop-i.counts x c.len.result
+          here room c.index-players-i.is count c.loop-i.invariant.counted;
     }
 
 pub returns : goal.returns
-returns c = all_counted player_of c.args.players.now c.loop-i.i c.loop-i.counts (omega arith) (omega arith) c.loop-i.invariant.counted
+returns c = all_counted player_of c.args.players.now c.loop-i.i c.loop-i.counts (omega arith)
+    (omega arith) c.loop-i.invariant.counted

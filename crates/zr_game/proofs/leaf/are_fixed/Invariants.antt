@@ -4,4 +4,6 @@ use Rattle.zr_game.proofs.leaf.are_fixed.Given as goal
 
 abbrev pub invariant-loop-v : goal.invariant-loop-v
 invariant-loop-v l =
-    Checked l.v (λ v var. var.whole ≡ true → (value : ℤ) × (slice_index_or l.low v None ≡ Some value) × (slice_index_or l.high v None ≡ Some value)) l.vars l.all
+    Checked l.v (λ v var. var.whole ≡ true → (value : ℤ) ×
+    (slice_index_or l.low v None ≡ Some value) ×
+    (slice_index_or l.high v None ≡ Some value)) l.vars l.all

@@ -10,8 +10,12 @@ pub loop-v-preserved : goal.loop-v-preserved
 loop-v-preserved c =
     let f : FitsSigned w128 (get_or c.args.dir.now c.loop-v.v (pos 0)) = search rules in
     let told = simp to_z-of_z at c.keeps_bounds-all.ensures in
-    more_checked (λ v var. KeepsBounds (var_of var) (change_of c.args.dir.now v)) c.args.vars.now c.loop-v.v c.index-vars-v.result c.loop-v-test.true c.index-vars-v.is c.loop-v.all c.loop-v.invariant c.keeps_bounds-all.result told
+    more_checked (λ v var. KeepsBounds (var_of var) (change_of c.args.dir.now v)) c.args.vars.now
+    c.loop-v.v c.index-vars-v.result c.loop-v-test.true c.index-vars-v.is c.loop-v.all
+    c.loop-v.invariant c.keeps_bounds-all.result told
 
 pub returns : goal.returns
 returns c =
-    each_mapped var_of (λ v var. KeepsBounds var (change_of (c.args.dir.now) v)) c.args.vars.now c.loop-v.all (all_checked (λ v var. KeepsBounds (var_of var) (change_of c.args.dir.now v)) c.args.vars.now c.loop-v.v c.loop-v.all (omega arith) (omega arith) c.loop-v.invariant)
+    each_mapped var_of (λ v var. KeepsBounds var (change_of (c.args.dir.now) v)) c.args.vars.now
+    c.loop-v.all (all_checked (λ v var. KeepsBounds (var_of var) (change_of c.args.dir.now v))
+    c.args.vars.now c.loop-v.v c.loop-v.all (omega arith) (omega arith) c.loop-v.invariant)

@@ -10,13 +10,15 @@ use Rattle.zr_game.proofs.ray.pair_keeps.Goals as goal
 
 pub along-requires : goal.along-requires
 along-requires c =
-    rw c.as_slice.ensures (columns_exist IsCoefficient 0 (length c.args.dir.now) c.args.pair.now.coef.items c.requires.form.coef)
+    rw c.as_slice.ensures (columns_exist IsCoefficient 0 (length c.args.dir.now)
+    c.args.pair.now.coef.items c.requires.form.coef)
 
 pub returns : goal.returns
 returns c =
     let e = sym (rw c.as_slice.ensures at c.along.ensures) ∙ c.in_ok-change.was in
     let s = along_is c.args.pair.now.coef.items c.args.dir.now c.in_ok-change.change e in
-    let k = slack_is (pair_of c.args.pair.now) c.args.base.now c.in-Ok.slack (sym c.slack_at.ensures ∙ c.in-Ok.is) in
+    let k = slack_is (pair_of c.args.pair.now) c.args.base.now c.in-Ok.slack
+    (sym c.slack_at.ensures ∙ c.in-Ok.is) in
     let f : FitsSigned w128 c.in_ok-change.change = search rules in
     let g : FitsSigned w128 c.in-Ok.slack = search rules in
     let n : FitsSigned w128 c.num.result = search rules in

@@ -8,7 +8,8 @@ use Rattle.zr_game.proofs.ray.row_keeps.Goals as goal
 
 pub along-requires : goal.along-requires
 along-requires c =
-    rw c.as_slice.ensures (columns_exist IsCoefficient 0 (length c.args.dir.now) c.args.row.now.coef.items c.requires.coef)
+    rw c.as_slice.ensures (columns_exist IsCoefficient 0 (length c.args.dir.now)
+    c.args.row.now.coef.items c.requires.coef)
 
 pub returns : goal.returns
 returns c =

@@ -12,4 +12,10 @@ returns-in_ok-product-in-Some c =
     let f : FitsSigned w128 c.in_ok-product-in-Some.field-0 = search rules in
     let e = sym (simp to_z-of_z at c.product.ensures) ∙ c.in_ok-product-in-Some.was in
     let v = (cross_ok _ _ _ (sym e)).0 in
-    rw c.in-Some.is (rw e refl, simp to_z-of_z (λ h. omega (arith, ints, v, h), λ h. sym (omega (arith, ints, v, h))))
+    rw c.in-Some.is (
+      rw e refl,
+      simp to_z-of_z (
+        λ h. omega (arith, ints, v, h),
+        λ h. sym (omega (arith, ints, v, h)),
+      ),
+    )

@@ -9,6 +9,11 @@ pub returns : goal.returns
 returns c =
     let f : FitsSigned w128 c.args.num = search rules in
     let g : FitsSigned w128 c.args.den = search rules in
-    let a : c.unsigned_abs.result ≡ unsigned_abs c.args.num = simp to_z-of_z at c.unsigned_abs.ensures.value in
-    let b : c.unsigned_abs-2.result ≡ unsigned_abs c.args.den = simp to_z-of_z at c.unsigned_abs-2.ensures.value in
-    rw (a, b) (λ h. multiple_of c.args.num c.args.den (grind (arith, nat_tests, h)), λ h. let e = of_multiple c.args.num c.args.den h in grind (arith, nat_tests, e))
+    let a : c.unsigned_abs.result ≡ unsigned_abs c.args.num = simp to_z-of_z at
+    c.unsigned_abs.ensures.value in
+    let b : c.unsigned_abs-2.result ≡ unsigned_abs c.args.den = simp to_z-of_z at
+    c.unsigned_abs-2.ensures.value in
+    rw (a, b) (
+      λ h. multiple_of c.args.num c.args.den (grind (arith, nat_tests, h)),
+      λ h. let e = of_multiple c.args.num c.args.den h in grind (arith, nat_tests, e),
+    )

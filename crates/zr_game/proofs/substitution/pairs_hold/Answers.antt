@@ -10,18 +10,29 @@ use Rattle.zr_game.proofs.substitution.pairs_hold.Goals as goal
 
 pub pair_holds-requires : goal.pair_holds-requires
 pair_holds-requires c =
-    item pair_of (IsPairForm (length c.args.point.now.num)) c.args.pairs.now c.loop-pair.pair-index c.pair-item.result c.requires c.loop-pair-test.true c.pair-item.is
+    item pair_of (IsPairForm (length c.args.point.now.num)) c.args.pairs.now c.loop-pair.pair-index
+    c.pair-item.result c.requires c.loop-pair-test.true c.pair-item.is
 
 pub loop-pair-preserved : goal.loop-pair-preserved
 loop-pair-preserved c =
-    more (λ v pair. PairHolds c.args.point.now (pair_of pair)) (λ pair. pair_wide c.args.point.now (pair_of pair)) c.args.pairs.now c.loop-pair.pair-index c.pair-item.result c.loop-pair-test.true c.pair-item.is c.loop-pair.all c.loop-pair.invariant c.pair_holds.result c.in_ok-all.field-0 c.pair_holds.ensures c.in_ok-all.was
+    more (λ v pair. PairHolds c.args.point.now (pair_of pair))
+    (λ pair. pair_wide c.args.point.now (pair_of pair)) c.args.pairs.now c.loop-pair.pair-index
+    c.pair-item.result c.loop-pair-test.true c.pair-item.is c.loop-pair.all
+    c.loop-pair.invariant c.pair_holds.result c.in_ok-all.field-0 c.pair_holds.ensures
+    c.in_ok-all.was
 
 pub returns-in_err-all : goal.returns-in_err-all
 returns-in_err-all c =
     let p = err_from_is_err_and c.from_residual.result c.from_residual.ensures.1 in
-    let s = stops (λ v pair. PairHolds c.args.point.now (pair_of pair)) (λ pair. pair_wide c.args.point.now (pair_of pair)) c.args.pairs.now c.loop-pair.pair-index c.pair-item.result c.loop-pair-test.true c.pair-item.is c.loop-pair.all c.loop-pair.invariant c.pair_holds.result _ c.pair_holds.ensures c.in_err-all.was in
+    let s = stops (λ v pair. PairHolds c.args.point.now (pair_of pair))
+    (λ pair. pair_wide c.args.point.now (pair_of pair)) c.args.pairs.now c.loop-pair.pair-index
+    c.pair-item.result c.loop-pair-test.true c.pair-item.is c.loop-pair.all
+    c.loop-pair.invariant c.pair_holds.result _ c.pair_holds.ensures c.in_err-all.was in
     rw (p.1, p.2) (first_wide-map pair_of (pair_wide c.args.point.now) c.args.pairs.now ∙ s)
 
 pub returns : goal.returns
 returns c =
-    all_told pair_of (PairHolds c.args.point.now) (pair_wide c.args.point.now) c.args.pairs.now c.loop-pair.all (all_tested (λ v pair. PairHolds c.args.point.now (pair_of pair)) (λ pair. pair_wide c.args.point.now (pair_of pair)) c.args.pairs.now c.loop-pair.pair-index c.loop-pair.all (omega arith) c.loop-pair.invariant)
+    all_told pair_of (PairHolds c.args.point.now) (pair_wide c.args.point.now) c.args.pairs.now
+    c.loop-pair.all (all_tested (λ v pair. PairHolds c.args.point.now (pair_of pair))
+    (λ pair. pair_wide c.args.point.now (pair_of pair)) c.args.pairs.now c.loop-pair.pair-index
+    c.loop-pair.all (omega arith) c.loop-pair.invariant)

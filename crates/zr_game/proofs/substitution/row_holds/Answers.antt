@@ -7,8 +7,11 @@ use Rattle.zr_game.proofs.TermColumns.{columns_exist}
 use Rattle.zr_game.proofs.substitution.row_holds.Goals as goal
 
 pub holds-requires : goal.holds-requires
-holds-requires c = columns_exist IsCoefficient 0 (length c.args.point.now.num) c.args.row.now.coef.items c.requires.coef
+holds-requires c = columns_exist IsCoefficient 0 (length c.args.point.now.num)
+    c.args.row.now.coef.items c.requires.coef
 
 pub returns : goal.returns
 returns c =
-    tells_by (holds_of c.args.point.now (row_of c.args.row.now)) c.holds.result (RowHolds c.args.point.now (row_of c.args.row.now)) c.holds.ensures.exact (ap wide_in c.holds.ensures.steps)
+    tells_by (holds_of c.args.point.now (row_of c.args.row.now)) c.holds.result
+    (RowHolds c.args.point.now (row_of c.args.row.now)) c.holds.ensures.exact
+    (ap wide_in c.holds.ensures.steps)

@@ -11,13 +11,15 @@ use Rattle.zr_game.proofs.substitution.slack_at.Goals as goal
 
 pub sum_at-requires : goal.sum_at-requires
 sum_at-requires c =
-    rw c.as_slice.ensures (columns_exist IsCoefficient 0 (length c.args.point.now.num) c.args.pair.now.coef.items c.requires.coef)
+    rw c.as_slice.ensures (columns_exist IsCoefficient 0 (length c.args.point.now.num)
+    c.args.pair.now.coef.items c.requires.coef)
 
 pub returns-in_err-terms : goal.returns-in_err-terms
 returns-in_err-terms c =
     let p = err_from_is_err_and c.from_residual.result c.from_residual.ensures.1 in
     let e = sym (rw c.as_slice.ensures at c.sum_at.ensures) ∙ c.in_err-terms.was in
-    rw (p.1, p.2) (sym (wide_front (products c.args.pair.now.coef.items c.args.point.now.num) _ _ e))
+    rw (p.1, p.2)
+    (sym (wide_front (products c.args.pair.now.coef.items c.args.point.now.num) _ _ e))
 
 pub add_product-requires : goal.add_product-requires
 add_product-requires c =
@@ -34,5 +36,8 @@ returns c =
     let g : FitsSigned w64 c.args.pair.now.add = search rules in
     let h : FitsSigned w128 c.from.result = search rules in
     let k : FitsSigned w128 c.den.result = search rules in
-    let s = rw (simp to_z-of_z at c.from.ensures, c.den.ensures.value) at (simp to_z-of_z at c.add_product.ensures.step) in
-    s ∙ sym (one_more (products c.args.pair.now.coef.items c.args.point.now.num) _ c.in_ok-terms.terms e)
+    let s = rw (simp to_z-of_z at c.from.ensures, c.den.ensures.value) at
+    (simp to_z-of_z at c.add_product.ensures.step) in
+    s ∙
+    sym (one_more (products c.args.pair.now.coef.items c.args.point.now.num) _
+    c.in_ok-terms.terms e)
