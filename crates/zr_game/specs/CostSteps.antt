@@ -14,7 +14,8 @@ use Rattle.zr_game.specs.Costs.{point_of}
 -- one point of the right length per player
 pub record ArePoints (game : GameOf) (points : List PointOf) : Type 0 where
   pub len : length points ≡ length game
-  pub lens : (k : ℕ) (player : PlayerOf) → IsPlayer game k player → length (point_of points k).num ≡ length player.vars
+  pub lens : (k : ℕ) (player : PlayerOf) → IsPlayer game k player
+      → length (point_of points k).num ≡ length player.vars
 
 -- a times the value of variable v at x, which is taken in lowest terms
 abbrev pub times_value : Fraction → PointOf → ℕ → Result Fraction Wide
@@ -42,7 +43,8 @@ other_term points t = do
   times_place points first t.second
 
 -- the sum from s on of what is made of each item in turn
-abbrev pub sum_made : {A : Type 0} → (A → Result Fraction Wide) → Fraction → List A → Result Fraction Wide
+abbrev pub sum_made : {A : Type 0} → (A → Result Fraction Wide) → Fraction → List A
+    → Result Fraction Wide
 sum_made make s [] = Ok s
 sum_made make s (x ∷ xs) = make x >>= λ a. add_of s a >>= λ r. sum_made make r xs
 

@@ -18,7 +18,8 @@ pub record IsWithin (var : VarOf) (n d : ℤ) : Type 0 where
 
 -- each variable is within its bounds
 abbrev pub AreWithin : List VarOf → PointOf → Type 0
-AreWithin vars x = (v : ℕ) (var : VarOf) → slice_get vars v ≡ Some var → IsWithin var (num_of x v) x.den
+AreWithin vars x = (v : ℕ) (var : VarOf) → slice_get vars v ≡ Some var
+    → IsWithin var (num_of x v) x.den
 
 -- the sum of a pair's terms and its number, times the denominator
 abbrev pub slack : PairOf → PointOf → ℤ
@@ -27,9 +28,11 @@ slack pair x = sum_products (products pair.coef x.num) +ℤ pair.add *ℤ x.den
 -- the variable and the sum are at least 0, and one of them is 0
 abbrev pub PairHolds : PointOf → PairOf → Type 0
 PairHolds x pair =
-    ((pos 0) ≤ℤ num_of x pair.var) × ((pos 0) ≤ℤ slack pair x) × ((num_of x pair.var ≡ pos 0) ⊎ (slack pair x ≡ pos 0))
+    ((pos 0) ≤ℤ num_of x pair.var) × ((pos 0) ≤ℤ slack pair x)
+    × ((num_of x pair.var ≡ pos 0) ⊎ (slack pair x ≡ pos 0))
 
--- the point is one of the player: it has a number per variable, and keeps all bounds, rows and pairs
+-- the point is one of the player: it has a number per variable, and keeps all bounds, rows and
+-- pairs
 pub record IsFeasible (player : PlayerOf) (x : PointOf) : Type 0 where
   pub point : (pos 0) <ℤ x.den
   pub len : length x.num ≡ length player.vars

@@ -11,7 +11,8 @@ use Rattle.zr_game.specs.Forms.{AreTerms, IsCoefficient, IsCrossForm, IsGame, Is
 coefficient_prop : (z : ℤ) → IsProp (IsCoefficient z)
 coefficient_prop z = hlevel codes
 
-pub AscendWith-prop : (P : ℤ → Type 0) → ((z : ℤ) → IsProp (P z)) → (low columns : ℕ) (ts : Terms) → IsProp (AscendWith P low columns ts)
+pub AscendWith-prop : (P : ℤ → Type 0) → ((z : ℤ) → IsProp (P z)) → (low columns : ℕ) (ts : Terms)
+    → IsProp (AscendWith P low columns ts)
 AscendWith-prop P each low columns [] = Unit-prop
 AscendWith-prop P each low columns (t ∷ ts) =
     let rest = AscendWith-prop P each (t.0 + 1) columns ts in hlevel (codes, each, rest)
@@ -38,7 +39,15 @@ cross_prop : (game : GameOf) (i columns : ℕ) (t : CrossTerm) → IsProp (IsCro
 cross_prop game i columns t = hlevel codes
 
 player_prop : (game : GameOf) (i : ℕ) (player : PlayerOf) → IsProp (IsPlayerForm game i player)
-player_prop game i player = hlevel (codes, terms_prop, var_prop, row_prop, pair_prop, cross_prop, other_prop)
+player_prop game i player = hlevel (
+  codes,
+  terms_prop,
+  var_prop,
+  row_prop,
+  pair_prop,
+  cross_prop,
+  other_prop,
+)
 
 pub IsGame-prop : (game : GameOf) → IsProp (IsGame game)
 IsGame-prop game = hlevel (codes, player_prop)

@@ -1,4 +1,5 @@
--- What every game keeps: its numbers are within the limits, and each of them that names something names what exists.
+-- What every game keeps: its numbers are within the limits, and each of them that names something
+-- names what exists.
 use Rattle.std.specs.Prelude.{◌≡◌, ◌≢◌, ℕ, ◌<◌, ◌≤◌, ℤ, pos, neg_ℤ, ◌≤ℤ◌, List, length, slice_get, Option, Some, None}
 use Rattle.std.specs.Option.{ForSome}
 use Rattle.std.specs.List.{All, AllPairs}
@@ -67,7 +68,8 @@ pub record IsCrossForm (game : GameOf) (i columns : ℕ) (t : CrossTerm) : Type 
 
 -- the order of cross terms: by own variable, then player, then the player's variable
 abbrev pub cross_order : CrossTerm → CrossTerm → Ordering
-cross_order s t = ordering_then (ordering_then (nat_cmp s.own t.own) (nat_cmp s.player t.player)) (nat_cmp s.var t.var)
+cross_order s t = ordering_then (ordering_then (nat_cmp s.own t.own) (nat_cmp s.player t.player))
+    (nat_cmp s.var t.var)
 
 -- a variable of another player than i
 pub record IsOthersVar (game : GameOf) (i : ℕ) (at : ℕ × ℕ) : Type 0 where
@@ -75,7 +77,8 @@ pub record IsOthersVar (game : GameOf) (i : ℕ) (at : ℕ × ℕ) : Type 0 wher
   pub other : at.0 ≢ i
   pub var : HasVar game at.0 at.1
 
--- a term of player i in the others' variables alone: in one variable, or in those of two players, the lower player first
+-- a term of player i in the others' variables alone: in one variable, or in those of two players,
+-- the lower player first
 pub record IsOtherForm (game : GameOf) (i : ℕ) (t : Other) : Type 0 where
   pub first : IsOthersVar game i t.first
   pub second : ForSome t.second (λ at. (t.first.0 < at.0) × IsOthersVar game i at)
@@ -85,7 +88,8 @@ pub record IsOtherForm (game : GameOf) (i : ℕ) (t : Other) : Type 0 where
 abbrev pub place_order : ℕ × ℕ → ℕ × ℕ → Ordering
 place_order a b = ordering_then (nat_cmp a.0 b.0) (nat_cmp a.1 b.1)
 
--- terms in one variable come before those in two; each by the first variable, and then by the second
+-- terms in one variable come before those in two; each by the first variable, and then by the
+-- second
 abbrev pub seconds_order : ℕ × ℕ → ℕ × ℕ → Option (ℕ × ℕ) → Option (ℕ × ℕ) → Ordering
 seconds_order a b None None = place_order a b
 seconds_order a b None (Some y) = Less

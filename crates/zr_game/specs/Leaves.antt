@@ -23,7 +23,8 @@ leaf_of leaf = record {
   side = λ p. slice_index_or leaf.sides.items p Undecided;
 }
 
--- the leaf has a low and a high for each of the player's variables, and a side for each of its pairs
+-- the leaf has a low and a high for each of the player's variables, and a side for each of its
+-- pairs
 pub record IsLeafOf (player : PlayerOf) (leaf : Leaf) : Type 0 where
   pub lows : length leaf.low.items ≡ length player.vars
   pub highs : length leaf.high.items ≡ length player.vars
@@ -38,7 +39,11 @@ up_of vars v = option_and_then (λ var. var.up) (slice_get vars v)
 
 -- the leaf of all points: the variables' bounds, with every side undecided
 abbrev pub root_leaf : PlayerOf → LeafOf
-root_leaf player = record { low = low_of player.vars; high = up_of player.vars; side = λ p. Undecided }
+root_leaf player = record {
+  low = low_of player.vars;
+  high = up_of player.vars;
+  side = λ p. Undecided;
+}
 
 -- the lesser of a bound, if there is one, and a number; and the greater
 abbrev pub lesser : Option ℤ → ℤ → ℤ
@@ -51,11 +56,15 @@ greater (Some a) b = if int_le a b then b else a
 
 -- where variable v is at most `at`
 abbrev pub below : LeafOf → ℕ → ℤ → LeafOf
-below leaf v at = record leaf { high = λ w. if v == w then Some (lesser (leaf.high w) at) else leaf.high w }
+below leaf v at =
+    record leaf { high = λ w. if v == w then Some (lesser (leaf.high w) at) else leaf.high w }
 
 -- where variable v is at least `at + 1`
 abbrev pub above : LeafOf → ℕ → ℤ → LeafOf
-above leaf v at = record leaf { low = λ w. if v == w then Some (greater (leaf.low w) (at +ℤ pos 1)) else leaf.low w }
+above leaf v at = record leaf {
+  low = λ w.
+      if v == w then Some (greater (leaf.low w) (at +ℤ pos 1)) else leaf.low w;
+}
 
 -- where pair p has this side
 abbrev pub decided : LeafOf → ℕ → Side → LeafOf
@@ -114,17 +123,21 @@ side_slot pair RowZero = Some (record { coef = coef_at pair.coef; le = neg_ℤ p
 -- the two slots of each variable from number v on
 abbrev pub var_slots : LeafOf → ℕ → List VarOf → List (Option Bound)
 var_slots leaf v [] = []
-var_slots leaf v (var ∷ vars) = low_slot v (leaf.low v) ∷ high_slot v (leaf.high v) ∷ var_slots leaf (suc v) vars
+var_slots leaf v (var ∷ vars) =
+    low_slot v (leaf.low v) ∷ high_slot v (leaf.high v) ∷ var_slots leaf (suc v) vars
 
 -- the two slots of each pair from number p on
 abbrev pub pair_slots : LeafOf → ℕ → List PairOf → List (Option Bound)
 pair_slots leaf p [] = []
-pair_slots leaf p (pair ∷ pairs) = pair_slot pair ∷ side_slot pair (leaf.side p) ∷ pair_slots leaf (suc p) pairs
+pair_slots leaf p (pair ∷ pairs) =
+    pair_slot pair ∷ side_slot pair (leaf.side p) ∷ pair_slots leaf (suc p) pairs
 
--- the leaf's rows by their fixed numbers, which are called slots: the player's rows, two slots per variable, two per
--- pair. A slot that isn't present is None
+-- the leaf's rows by their fixed numbers, which are called slots: the player's rows, two slots per
+-- variable, two per pair. A slot that isn't present is None
 abbrev pub slots : PlayerOf → LeafOf → List (Option Bound)
-slots player leaf = map row_slot player.rows ++ (var_slots leaf 0 player.vars ++ pair_slots leaf 0 player.pairs)
+slots player leaf =
+    map row_slot player.rows
+    ++ (var_slots leaf 0 player.vars ++ pair_slots leaf 0 player.pairs)
 
 -- the row of slot k, if it is present
 abbrev pub slot_of : List (Option Bound) → ℕ → Option Bound
@@ -142,7 +155,8 @@ IsOpenPair player leaf p = (p < length player.pairs) × (leaf.side p ≡ Undecid
 pub record MeetsLeaf (player : PlayerOf) (leaf : LeafOf) (x : PointOf) : Type 0 where
   pub point : (pos 0) <ℤ x.den
   pub len : length x.num ≡ length player.vars
-  pub rows : (k : ℕ) (row : Bound) → slot_of (slots player leaf) k ≡ Some row → BoundHolds player x row
+  pub rows : (k : ℕ) (row : Bound) → slot_of (slots player leaf) k ≡ Some row
+      → BoundHolds player x row
 
 -- some point does
 abbrev pub HasPoint : PlayerOf → LeafOf → Type 0

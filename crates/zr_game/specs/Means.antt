@@ -18,7 +18,8 @@ mean parts v = over (weighted parts (λ x. value_of x v)) (total parts)
 abbrev pub slope : PlayerOf → Profile → ℕ → Fraction
 slope player profile v =
     plus (whole (coef_at player.cost v))
-    (sum_over (filter (λ t. t.own == v) player.cross) (λ t. times (whole t.coef) (mean (strategy_of profile t.player) t.var)))
+    (sum_over (filter (λ t. t.own == v) player.cross)
+    (λ t. times (whole t.coef) (mean (strategy_of profile t.player) t.var)))
 
 -- the mean of variable v of player k
 abbrev pub mean_at_place : Profile → ℕ × ℕ → Fraction
@@ -30,10 +31,12 @@ rest player profile = rest_at player (mean_at_place profile)
 
 -- the sum over the player's variables of slope times value
 abbrev pub along_slope : PlayerOf → Profile → (ℕ → Fraction) → Fraction
-along_slope player profile value = sum_below (length player.vars) (λ v. times (slope player profile v) (value v))
+along_slope player profile value =
+    sum_below (length player.vars) (λ v. times (slope player profile v) (value v))
 
 -- along the slope, no feasible point is below the player's own mean
 abbrev pub IsBestAlongSlope : GameOf → Profile → Type 0
 IsBestAlongSlope game profile =
     (i : ℕ) (player : PlayerOf) → IsPlayer game i player → (x : PointOf) → IsFeasible player x
-    → IsAtMost (along_slope player profile (mean (strategy_of profile i))) (along_slope player profile (value_of x))
+    → IsAtMost (along_slope player profile (mean (strategy_of profile i)))
+    (along_slope player profile (value_of x))

@@ -28,4 +28,7 @@ abbrev pub penny : ℤ → PointOf
 penny z = record { num = z ∷ []; den = pos 1 }
 
 abbrev pub half_half : Strategy
-half_half = record { weight = pos 1; point = penny (pos 0) } ∷ record { weight = pos 1; point = penny (pos 1) } ∷ []
+half_half =
+    record { weight = pos 1; point = penny (pos 0) }
+    ∷ record { weight = pos 1; point = penny (pos 1) }
+    ∷ []

@@ -25,8 +25,8 @@ pub record PairOf : Type 0 where
   pub coef : Terms
   pub add : ℤ
 
--- a player's variables, rows, pairs and costs: the terms of its own variables, those with another player's, and those in
--- the others' variables alone
+-- a player's variables, rows, pairs and costs: the terms of its own variables, those with another
+-- player's, and those in the others' variables alone
 pub record PlayerOf : Type 0 where
   pub name : Name
   pub vars : List VarOf

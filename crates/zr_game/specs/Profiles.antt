@@ -35,7 +35,8 @@ totals (parts ∷ rest) = total parts *ℤ totals rest
 abbrev pub weighted : Strategy → (PointOf → Fraction) → Fraction
 weighted parts f = sum_over parts (λ part. times (whole part.weight) (f part.point))
 
--- the sum over all tuples that take one part from each player of the product of the weights times f at the points
+-- the sum over all tuples that take one part from each player of the product of the weights times f
+-- at the points
 abbrev pub tuple_sum : Profile → (List PointOf → Fraction) → Fraction
 tuple_sum [] f = f []
 tuple_sum (parts ∷ rest) f = weighted parts (λ x. tuple_sum rest (λ points. f (x ∷ points)))
@@ -63,9 +64,11 @@ pub record IsStrategyOver (feasible : PointOf → Type 0) (parts : Strategy) : T
   pub points : All (λ part. feasible part.point) parts
 
 -- each of those who choose has a strategy over the points that it may choose
-pub record IsProfileAmong {A : Type 0} (feasible : A → PointOf → Type 0) (choosers : List A) (profile : Profile) : Type 0 where
+pub record IsProfileAmong {A : Type 0} (feasible : A → PointOf → Type 0) (choosers : List A)
+    (profile : Profile) : Type 0 where
   pub len : length profile ≡ length choosers
-  pub strategies : (i : ℕ) (a : A) → slice_get choosers i ≡ Some a → IsStrategyOver (feasible a) (strategy_of profile i)
+  pub strategies : (i : ℕ) (a : A) → slice_get choosers i ≡ Some a
+      → IsStrategyOver (feasible a) (strategy_of profile i)
 
 -- pure: each strategy has one part; mixed: any
 abbrev pub IsOfKind : Kind → Profile → Type 0

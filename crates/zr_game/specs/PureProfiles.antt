@@ -17,7 +17,8 @@ first_point (part ∷ parts) = part.point
 abbrev pub points_of : Profile → List PointOf
 points_of profile = map first_point profile
 
--- no player has a feasible point at which its cost is smaller, the other players' points being as they are
+-- no player has a feasible point at which its cost is smaller, the other players' points being as
+-- they are
 abbrev pub IsStableAt : GameOf → List PointOf → Type 0
 IsStableAt game points =
     (i : ℕ) (player : PlayerOf) → IsPlayer game i player → (x : PointOf) → IsFeasible player x

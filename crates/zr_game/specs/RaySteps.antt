@@ -14,8 +14,10 @@ use Rattle.zr_game.specs.Rays.{Direction}
 abbrev pub along_wide : Direction → Terms → Option Wide
 along_wide dir coef = wide_in (sum_steps (pos 0) (products coef dir))
 
--- the first wide step of the base's test, then of the rows along the direction, and then of the pairs
+-- the first wide step of the base's test, then of the rows along the direction, and then of the
+-- pairs
 abbrev pub ray_wide : PlayerOf → PointOf → Direction → Option Wide
 ray_wide player base dir =
     or_else (feasible_wide player base)
-    (or_else (first_wide (λ row. along_wide dir row.coef) player.rows) (first_wide (λ pair. along_wide dir pair.coef) player.pairs))
+    (or_else (first_wide (λ row. along_wide dir row.coef) player.rows)
+    (first_wide (λ pair. along_wide dir pair.coef) player.pairs))

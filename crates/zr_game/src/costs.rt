@@ -67,7 +67,8 @@ fn cross_sum(start: Frac, cross: &[CrossTerm], i: usize, points: &[Point]) -> Re
     requires terms { All (IsTermAt i points.now) cross.now }
     requires lowest { IsLowest start }
     ensures steps { result ≡ sum_made (cross_term i points.now) start cross.now }
-    ensures exact { IfOk result (λ f. IsSame f (plus start (sum_over cross.now (cross_value i points.now)))) }
+    ensures exact { IfOk result
+        (λ f. IsSame f (plus start (sum_over cross.now (cross_value i points.now)))) }
     ensures lowest { IfOk result IsLowest }
 {
     let mut sum = start;
@@ -83,7 +84,8 @@ fn other_sum(start: Frac, others: &[Other], points: &[Point]) -> Result<Frac, Wi
     requires terms { All (IsOtherAt points.now) others.now }
     requires lowest { IsLowest start }
     ensures steps { result ≡ sum_made (other_term points.now) start others.now }
-    ensures exact { IfOk result (λ f. IsSame f (plus start (sum_over others.now (other_value points.now)))) }
+    ensures exact { IfOk result
+        (λ f. IsSame f (plus start (sum_over others.now (other_value points.now)))) }
     ensures lowest { IfOk result IsLowest }
 {
     let mut sum = start;

@@ -39,7 +39,9 @@ fn var_counts(players: &[Player]) -> [usize; 16]
 
 fn are_players(players: &[Player], counts: &[usize]) -> bool
     requires { counts.now ≡ map var_count (players_of players.now) }
-    ensures { IsTrue result ↔ ((i : ℕ) (player : PlayerOf) → IsPlayer (players_of players.now) i player → IsPlayerForm (players_of players.now) i player) }
+    ensures { IsTrue result ↔ ((i : ℕ) (player : PlayerOf)
+        → IsPlayer (players_of players.now) i player
+        → IsPlayerForm (players_of players.now) i player) }
 {
     let mut all = true;
     for (i, player) in players.iter().enumerate() {
@@ -50,7 +52,8 @@ fn are_players(players: &[Player], counts: &[usize]) -> bool
 
 /// Whether a player keeps the rules as number `i` of a game whose players have so many variables.
 pub fn is_player(player: &Player, i: usize, counts: &[usize]) -> bool
-    ensures { (game : GameOf) → map var_count game ≡ counts.now → (IsTrue result ↔ IsPlayerForm game i (player_of player.now)) }
+    ensures { (game : GameOf) → map var_count game ≡ counts.now
+        → (IsTrue result ↔ IsPlayerForm game i (player_of player.now)) }
 {
     let columns = player.vars.len();
     are_counts(player)
@@ -178,7 +181,8 @@ fn is_number(z: i64) -> bool
 }
 
 fn are_cross_terms(cross: &[CrossTerm], i: usize, columns: usize, counts: &[usize]) -> bool
-    ensures { (game : GameOf) → map var_count game ≡ counts.now → (IsTrue result ↔ All (IsCrossForm game i columns) cross.now) }
+    ensures { (game : GameOf) → map var_count game ≡ counts.now
+        → (IsTrue result ↔ All (IsCrossForm game i columns) cross.now) }
 {
     let mut all = true;
     for t in cross {
@@ -188,7 +192,8 @@ fn are_cross_terms(cross: &[CrossTerm], i: usize, columns: usize, counts: &[usiz
 }
 
 fn is_cross_term(t: &CrossTerm, i: usize, columns: usize, counts: &[usize]) -> bool
-    ensures { (game : GameOf) → map var_count game ≡ counts.now → (IsTrue result ↔ IsCrossForm game i columns t.now) }
+    ensures { (game : GameOf) → map var_count game ≡ counts.now
+        → (IsTrue result ↔ IsCrossForm game i columns t.now) }
 {
     (t.own as usize) < columns
         && t.player as usize != i
@@ -198,14 +203,16 @@ fn is_cross_term(t: &CrossTerm, i: usize, columns: usize, counts: &[usize]) -> b
 
 /// Whether there is a player `k` with a variable `v`.
 fn has_var(counts: &[usize], k: usize, v: usize) -> bool
-    ensures { (game : GameOf) → map var_count game ≡ counts.now → (IsTrue result ↔ ((k < length game) × HasVar game k v)) }
+    ensures { (game : GameOf) → map var_count game ≡ counts.now
+        → (IsTrue result ↔ ((k < length game) × HasVar game k v)) }
 {
     k < counts.len() && v < counts[k]
 }
 
 /// Whether the variable of each pair has the lower bound 0.
 fn are_from_zero(pairs: &[Pair], vars: &[Var]) -> bool
-    ensures { IsTrue result ↔ All (λ pair. IsFromZero (map var_of vars.now) pair.var) (map pair_of pairs.now) }
+    ensures { IsTrue result ↔ All (λ pair. IsFromZero (map var_of vars.now) pair.var)
+        (map pair_of pairs.now) }
 {
     let mut all = true;
     for pair in pairs {
@@ -221,7 +228,8 @@ fn is_from_zero(vars: &[Var], v: usize) -> bool
 }
 
 fn are_others(others: &[Other], i: usize, counts: &[usize]) -> bool
-    ensures { (game : GameOf) → map var_count game ≡ counts.now → (IsTrue result ↔ All (IsOtherForm game i) others.now) }
+    ensures { (game : GameOf) → map var_count game ≡ counts.now
+        → (IsTrue result ↔ All (IsOtherForm game i) others.now) }
 {
     let mut all = true;
     for t in others {
@@ -231,7 +239,8 @@ fn are_others(others: &[Other], i: usize, counts: &[usize]) -> bool
 }
 
 fn is_other(t: &Other, i: usize, counts: &[usize]) -> bool
-    ensures { (game : GameOf) → map var_count game ≡ counts.now → (IsTrue result ↔ IsOtherForm game i t.now) }
+    ensures { (game : GameOf) → map var_count game ≡ counts.now
+        → (IsTrue result ↔ IsOtherForm game i t.now) }
 {
     is_others_var(t.first, i, counts)
         && is_second(t.first, t.second, i, counts)
@@ -240,7 +249,8 @@ fn is_other(t: &Other, i: usize, counts: &[usize]) -> bool
 
 /// Whether the second variable, where there is one, is that of a later player than the first.
 fn is_second(first: (u32, u32), second: Option<(u32, u32)>, i: usize, counts: &[usize]) -> bool
-    ensures { (game : GameOf) → map var_count game ≡ counts.now → (IsTrue result ↔ ForSome second (λ at. (first.0 < at.0) × IsOthersVar game i at)) }
+    ensures { (game : GameOf) → map var_count game ≡ counts.now
+        → (IsTrue result ↔ ForSome second (λ at. (first.0 < at.0) × IsOthersVar game i at)) }
 {
     match second {
         None => true,
@@ -250,7 +260,8 @@ fn is_second(first: (u32, u32), second: Option<(u32, u32)>, i: usize, counts: &[
 
 /// Whether there is such a variable, of another player than `i`.
 fn is_others_var(at: (u32, u32), i: usize, counts: &[usize]) -> bool
-    ensures { (game : GameOf) → map var_count game ≡ counts.now → (IsTrue result ↔ IsOthersVar game i at) }
+    ensures { (game : GameOf) → map var_count game ≡ counts.now
+        → (IsTrue result ↔ IsOthersVar game i at) }
 {
     at.0 as usize != i && has_var(counts, at.0 as usize, at.1 as usize)
 }

@@ -16,7 +16,8 @@ ghost use Rattle.zr_game.specs.declared.kind.Kind.TheVariants.{Pure};
 
 /// Points of the same values are feasible alike.
 pub fn law_of_same_points()
-    ensures { (player : PlayerOf) (x y : PointOf) → IsFeasible player x → IsSamePoint x y → IsFeasible player y }
+    ensures { (player : PlayerOf) (x y : PointOf) → IsFeasible player x → IsSamePoint x y
+        → IsFeasible player y }
 {}
 
 /// Points of the same values cost the same.
@@ -29,10 +30,12 @@ pub fn law_of_same_costs()
 /// The expected cost of a pure profile is the cost at its points, and so it is where one player
 /// plays another point.
 pub fn law_of_pure_costs()
-    ensures played { (game : GameOf) (profile : Profile) → IsProfile game profile → IsOfKind Pure profile
+    ensures played { (game : GameOf) (profile : Profile) → IsProfile game profile
+        → IsOfKind Pure profile
         → (i : ℕ) (player : PlayerOf) → IsPlayer game i player
         → IsSame (expected_cost player i profile) (cost_of player i (points_of profile)) }
-    ensures deviated { (game : GameOf) (profile : Profile) → IsProfile game profile → IsOfKind Pure profile
+    ensures deviated { (game : GameOf) (profile : Profile) → IsProfile game profile
+        → IsOfKind Pure profile
         → (i : ℕ) (player : PlayerOf) → IsPlayer game i player → (x : PointOf) → IsFeasible player x
         → IsSame (expected_cost player i (deviation profile i x))
         (cost_of player i (slice_set (points_of profile) i x)) }
@@ -45,8 +48,8 @@ pub fn law_of_pure_equilibria()
         → (IsEquilibrium game profile ↔ IsStableAt game (points_of profile)) }
 {}
 
-/// An expected cost is the sum of slope times mean, plus the player's terms in the others' variables
-/// alone at the others' means.
+/// An expected cost is the sum of slope times mean, plus the player's terms in the others'
+/// variables alone at the others' means.
 pub fn law_of_means()
     ensures { (game : GameOf) → IsGame game → (profile : Profile) → IsProfile game profile
         → (i : ℕ) (player : PlayerOf) → IsPlayer game i player
@@ -79,7 +82,8 @@ pub fn law_of_pennies()
 /// feasible point.
 pub fn law_of_rays()
     ensures { (game : GameOf) → IsGame game → (i : ℕ) (player : PlayerOf) → IsPlayer game i player
-        → (base : PointOf) (dir : Direction) → length base.num ≡ length player.vars → length dir ≡ length player.vars
+        → (base : PointOf) (dir : Direction) → length base.num ≡ length player.vars
+        → length dir ≡ length player.vars
         → (IsRay player base dir ↔ StaysFeasible player base dir) }
 {}
 

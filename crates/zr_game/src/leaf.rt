@@ -33,8 +33,10 @@ impl Leaf {
     /// the variables' own, and every side is undecided.
     pub fn root(alloc: Global, game: &Game, i: u32) -> Result<Leaf, NoMemory>
         requires { i < length (game_of game.now) }
-        ensures lengths { (player : PlayerOf) → IsPlayer (game_of game.now) i player → IfOk result (IsLeafOf player) }
-        ensures root { (player : PlayerOf) → IsPlayer (game_of game.now) i player → IfOk result (λ leaf. leaf_of leaf ≡ root_leaf player) }
+        ensures lengths { (player : PlayerOf) → IsPlayer (game_of game.now) i player
+            → IfOk result (IsLeafOf player) }
+        ensures root { (player : PlayerOf) → IsPlayer (game_of game.now) i player
+            → IfOk result (λ leaf. leaf_of leaf ≡ root_leaf player) }
     {
         let player = &game.players[i as usize];
         let Ok(low) = lower_bounds(alloc, &player.vars) else {
@@ -53,8 +55,10 @@ impl Leaf {
     /// players, and a side for each of its pairs.
     pub fn settled(&self, game: &Game, i: u32) -> bool
         requires number { i < length (game_of game.now) }
-        requires lengths { (player : PlayerOf) → IsPlayer (game_of game.now) i player → IsLeafOf player self.now }
-        ensures { (player : PlayerOf) → IsPlayer (game_of game.now) i player → (IsTrue result ↔ IsSettled player (leaf_of self.now)) }
+        requires lengths { (player : PlayerOf) → IsPlayer (game_of game.now) i player
+            → IsLeafOf player self.now }
+        ensures { (player : PlayerOf) → IsPlayer (game_of game.now) i player
+            → (IsTrue result ↔ IsSettled player (leaf_of self.now)) }
     {
         let player = &game.players[i as usize];
         are_fixed(&player.vars, &self.low, &self.high) & are_decided(&self.sides)
@@ -83,8 +87,10 @@ fn upper_bounds(alloc: Global, vars: &[Var]) -> Result<Vec<Option<i64>>, AllocEr
 fn are_fixed(vars: &[Var], low: &[Option<i64>], high: &[Option<i64>]) -> bool
     requires lows { length low.now ≡ length vars.now }
     requires highs { length high.now ≡ length vars.now }
-    ensures { IsTrue result ↔ ((v : ℕ) (var : VarOf) → slice_get (map var_of vars.now) v ≡ Some var → var.whole ≡ true
-        → (value : ℤ) × (slice_index_or low.now v None ≡ Some value) × (slice_index_or high.now v None ≡ Some value)) }
+    ensures { IsTrue result ↔ ((v : ℕ) (var : VarOf) → slice_get (map var_of vars.now) v ≡ Some var
+        → var.whole ≡ true
+        → (value : ℤ) × (slice_index_or low.now v None ≡ Some value) ×
+        (slice_index_or high.now v None ≡ Some value)) }
 {
     let mut all = true;
     for (v, var) in vars.iter().enumerate() {
@@ -94,14 +100,16 @@ fn are_fixed(vars: &[Var], low: &[Option<i64>], high: &[Option<i64>]) -> bool
 }
 
 fn is_fixed(var: &Var, low: Option<i64>, high: Option<i64>) -> bool
-    ensures { IsTrue result ↔ (var.now.whole ≡ true → (value : ℤ) × (low ≡ Some value) × (high ≡ Some value)) }
+    ensures { IsTrue result ↔ (var.now.whole ≡ true → (value : ℤ) × (low ≡ Some value)
+        × (high ≡ Some value)) }
 {
     !var.whole || low.is_some() && low == high
 }
 
 /// Whether no side is undecided.
 fn are_decided(sides: &[Side]) -> bool
-    ensures { IsTrue result ↔ ((p : ℕ) → p < length sides.now → slice_index_or sides.now p Side.Undecided ≡ Side.Undecided → ⊥) }
+    ensures { IsTrue result ↔ ((p : ℕ) → p < length sides.now
+        → slice_index_or sides.now p Side.Undecided ≡ Side.Undecided → ⊥) }
 {
     sides.iter().all(|side| *side != Side::Undecided)
 }

@@ -28,7 +28,8 @@ pub fn is_ray(game: &Game, i: u32, base: &Point, dir: &[i128]) -> Result<bool, W
     requires number { i < length (game_of game.now) }
     requires narrow { All IsNarrow dir.now }
     ensures length { (player : PlayerOf) → IsPlayer (game_of game.now) i player
-        → (length base.now.num ≢ length player.vars) ⊎ (length dir.now ≢ length player.vars) → result ≡ Ok false }
+        → (length base.now.num ≢ length player.vars) ⊎ (length dir.now ≢ length player.vars)
+        → result ≡ Ok false }
     ensures tells { (player : PlayerOf) → IsPlayer (game_of game.now) i player
         → length base.now.num ≡ length player.vars → length dir.now ≡ length player.vars
         → Tells result (IsRay player base.now dir.now) (ray_wide player base.now dir.now) }
@@ -43,9 +44,12 @@ pub fn is_ray(game: &Game, i: u32, base: &Point, dir: &[i128]) -> Result<bool, W
 fn is_ray_of(player: &Player, base: &Point, dir: &[i128]) -> Result<bool, Wide>
     requires base { length base.now.num ≡ length (player_of player.now).vars }
     requires dir { length dir.now ≡ length (player_of player.now).vars }
-    requires rows { All (IsRowForm (length (player_of player.now).vars)) (player_of player.now).rows }
-    requires pairs { All (IsPairForm (length (player_of player.now).vars)) (player_of player.now).pairs }
-    ensures { Tells result (IsRay (player_of player.now) base.now dir.now) (ray_wide (player_of player.now) base.now dir.now) }
+    requires rows { All (IsRowForm (length (player_of player.now).vars))
+        (player_of player.now).rows }
+    requires pairs { All (IsPairForm (length (player_of player.now).vars))
+        (player_of player.now).pairs }
+    ensures { Tells result (IsRay (player_of player.now) base.now dir.now)
+        (ray_wide (player_of player.now) base.now dir.now) }
 {
     let starts = is_feasible(player, base)?;
     let rows = rows_keep(&player.rows, dir)?;
@@ -73,7 +77,8 @@ fn keeps_bounds(var: &Var, change: i128) -> bool
 
 fn rows_keep(rows: &[Row], dir: &[i128]) -> Result<bool, Wide>
     requires { All (IsRowForm (length dir.now)) (map row_of rows.now) }
-    ensures { Tells result (All (KeepsRow dir.now) (map row_of rows.now)) (first_wide (λ row. along_wide dir.now row.coef) (map row_of rows.now)) }
+    ensures { Tells result (All (KeepsRow dir.now) (map row_of rows.now))
+        (first_wide (λ row. along_wide dir.now row.coef) (map row_of rows.now)) }
 {
     let mut all = true;
     for row in rows {
@@ -84,7 +89,8 @@ fn rows_keep(rows: &[Row], dir: &[i128]) -> Result<bool, Wide>
 
 fn row_keeps(row: &Row, dir: &[i128]) -> Result<bool, Wide>
     requires { IsRowForm (length dir.now) (row_of row.now) }
-    ensures { Tells result (KeepsRow dir.now (row_of row.now)) (along_wide dir.now (row_of row.now).coef) }
+    ensures { Tells result (KeepsRow dir.now (row_of row.now))
+        (along_wide dir.now (row_of row.now).coef) }
 {
     let change = along(row.coef.as_slice(), dir)?;
     Ok(change <= 0)
@@ -94,7 +100,8 @@ fn pairs_keep(pairs: &[Pair], base: &Point, dir: &[i128]) -> Result<bool, Wide>
     requires forms { All (IsPairForm (length dir.now)) (map pair_of pairs.now) }
     requires len { length base.now.num ≡ length dir.now }
     requires narrow { first_wide (pair_wide base.now) (map pair_of pairs.now) ≡ None }
-    ensures { Tells result (All (KeepsPair base.now dir.now) (map pair_of pairs.now)) (first_wide (λ pair. along_wide dir.now pair.coef) (map pair_of pairs.now)) }
+    ensures { Tells result (All (KeepsPair base.now dir.now) (map pair_of pairs.now))
+        (first_wide (λ pair. along_wide dir.now pair.coef) (map pair_of pairs.now)) }
 {
     let mut all = true;
     for pair in pairs {
@@ -120,7 +127,8 @@ fn pair_keeps(pair: &Pair, base: &Point, dir: &[i128]) -> Result<bool, Wide>
     requires form { IsPairForm (length dir.now) (pair_of pair.now) }
     requires len { length base.now.num ≡ length dir.now }
     requires narrow { pair_wide base.now (pair_of pair.now) ≡ None }
-    ensures { Tells result (KeepsPair base.now dir.now (pair_of pair.now)) (along_wide dir.now (pair_of pair.now).coef) }
+    ensures { Tells result (KeepsPair base.now dir.now (pair_of pair.now))
+        (along_wide dir.now (pair_of pair.now).coef) }
 {
     let change = along(pair.coef.as_slice(), dir)?;
     let Ok(slack) = slack_at(pair, base) else {
@@ -133,7 +141,8 @@ fn pair_keeps(pair: &Pair, base: &Point, dir: &[i128]) -> Result<bool, Wide>
 /// Whether of a variable and a sum, each with its change, the sum doesn't fall, and one of the two
 /// is 0 and doesn't change.
 fn stays_complementary(var: (i128, i128), sum: (i128, i128)) -> bool
-    ensures { IsTrue result ↔ ((pos 0 ≤ℤ sum.1) × (((var.0 ≡ pos 0) × (var.1 ≡ pos 0)) ⊎ ((sum.0 ≡ pos 0) × (sum.1 ≡ pos 0)))) }
+    ensures { IsTrue result ↔ ((pos 0 ≤ℤ sum.1)
+        × (((var.0 ≡ pos 0) × (var.1 ≡ pos 0)) ⊎ ((sum.0 ≡ pos 0) × (sum.1 ≡ pos 0)))) }
 {
     sum.1 >= 0 && (var.0 == 0 && var.1 == 0 || sum.0 == 0 && sum.1 == 0)
 }

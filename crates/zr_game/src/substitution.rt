@@ -17,12 +17,15 @@ use zr_base::{Point, Row, Wide, add_product, cross, sum_at};
 /// Whether the point is one of player `i`, which is below the number of players.
 ///
 /// A point of another length than the player's variables is none of its points. Else the bounds of
-/// all variables are made, the lower one first, then all rows and then all pairs; the answer is the first step of these
-/// that is too wide, where there is one.
+/// all variables are made, of each the lower one first, then all rows and then all pairs; the
+/// answer is the first step of these that is too wide, where there is one.
 pub fn feasible(game: &Game, i: u32, point: &Point) -> Result<bool, Wide>
     requires { i < length (game_of game.now) }
-    ensures length { (player : PlayerOf) → IsPlayer (game_of game.now) i player → length point.now.num ≢ length player.vars → result ≡ Ok false }
-    ensures tells { (player : PlayerOf) → IsPlayer (game_of game.now) i player → length point.now.num ≡ length player.vars → Tells result (IsFeasible player point.now) (feasible_wide player point.now) }
+    ensures length { (player : PlayerOf) → IsPlayer (game_of game.now) i player
+        → length point.now.num ≢ length player.vars → result ≡ Ok false }
+    ensures tells { (player : PlayerOf) → IsPlayer (game_of game.now) i player
+        → length point.now.num ≡ length player.vars
+        → Tells result (IsFeasible player point.now) (feasible_wide player point.now) }
 {
     let player = &game.players[i as usize];
     if point.len() != player.vars.len() {
@@ -36,7 +39,8 @@ pub(crate) fn is_feasible(player: &Player, point: &Point) -> Result<bool, Wide>
     requires len { length point.now.num ≡ length (player_of player.now).vars }
     requires rows { All (IsRowForm (length point.now.num)) (player_of player.now).rows }
     requires pairs { All (IsPairForm (length point.now.num)) (player_of player.now).pairs }
-    ensures { Tells result (IsFeasible (player_of player.now) point.now) (feasible_wide (player_of player.now) point.now) }
+    ensures { Tells result (IsFeasible (player_of player.now) point.now)
+        (feasible_wide (player_of player.now) point.now) }
 {
     let _den = point.den();
     let bounds = bounds_hold(&player.vars, point)?;
@@ -47,7 +51,8 @@ pub(crate) fn is_feasible(player: &Player, point: &Point) -> Result<bool, Wide>
 
 fn bounds_hold(vars: &[Var], point: &Point) -> Result<bool, Wide>
     requires { length vars.now ≡ length point.now.num }
-    ensures { Tells result (AreWithin (map var_of vars.now) point.now) (first_wide (var_wide point.now.den) (map var_of vars.now)) }
+    ensures { Tells result (AreWithin (map var_of vars.now) point.now)
+        (first_wide (var_wide point.now.den) (map var_of vars.now)) }
 {
     let mut all = true;
     for (v, var) in vars.iter().enumerate() {
@@ -58,7 +63,8 @@ fn bounds_hold(vars: &[Var], point: &Point) -> Result<bool, Wide>
 
 fn rows_hold(rows: &[Row], point: &Point) -> Result<bool, Wide>
     requires { All (IsRowForm (length point.now.num)) (map row_of rows.now) }
-    ensures { Tells result (All (RowHolds point.now) (map row_of rows.now)) (first_wide (row_wide point.now) (map row_of rows.now)) }
+    ensures { Tells result (All (RowHolds point.now) (map row_of rows.now))
+        (first_wide (row_wide point.now) (map row_of rows.now)) }
 {
     let mut all = true;
     for row in rows {
@@ -69,14 +75,16 @@ fn rows_hold(rows: &[Row], point: &Point) -> Result<bool, Wide>
 
 fn row_holds(row: &Row, point: &Point) -> Result<bool, Wide>
     requires { IsRowForm (length point.now.num) (row_of row.now) }
-    ensures { Tells result (RowHolds point.now (row_of row.now)) (row_wide point.now (row_of row.now)) }
+    ensures { Tells result (RowHolds point.now (row_of row.now))
+        (row_wide point.now (row_of row.now)) }
 {
     row.holds(point)
 }
 
 fn pairs_hold(pairs: &[Pair], point: &Point) -> Result<bool, Wide>
     requires { All (IsPairForm (length point.now.num)) (map pair_of pairs.now) }
-    ensures { Tells result (All (PairHolds point.now) (map pair_of pairs.now)) (first_wide (pair_wide point.now) (map pair_of pairs.now)) }
+    ensures { Tells result (All (PairHolds point.now) (map pair_of pairs.now))
+        (first_wide (pair_wide point.now) (map pair_of pairs.now)) }
 {
     let mut all = true;
     for pair in pairs {
@@ -87,7 +95,8 @@ fn pairs_hold(pairs: &[Pair], point: &Point) -> Result<bool, Wide>
 
 fn pair_holds(pair: &Pair, point: &Point) -> Result<bool, Wide>
     requires { IsPairForm (length point.now.num) (pair_of pair.now) }
-    ensures { Tells result (PairHolds point.now (pair_of pair.now)) (pair_wide point.now (pair_of pair.now)) }
+    ensures { Tells result (PairHolds point.now (pair_of pair.now))
+        (pair_wide point.now (pair_of pair.now)) }
 {
     let slack = slack_at(pair, point)?;
     Ok(is_complementary(point.num(pair.var as usize), slack))
@@ -96,7 +105,8 @@ fn pair_holds(pair: &Pair, point: &Point) -> Result<bool, Wide>
 /// The sum of a pair's terms at a point's numerators, and then its number times the denominator.
 pub(crate) fn slack_at(pair: &Pair, point: &Point) -> Result<i128, Wide>
     requires { IsPairForm (length point.now.num) (pair_of pair.now) }
-    ensures { result ≡ sum_steps (pos 0) (products pair.now.coef.items point.now.num ++ (pair.now.add, point.now.den) ∷ []) }
+    ensures { result ≡ sum_steps (pos 0)
+        (products pair.now.coef.items point.now.num ++ (pair.now.add, point.now.den) ∷ []) }
 {
     let terms = sum_at(pair.coef.as_slice(), point)?;
     add_product(terms, i128::from(pair.add), point.den())
@@ -104,7 +114,8 @@ pub(crate) fn slack_at(pair: &Pair, point: &Point) -> Result<i128, Wide>
 
 /// Whether both numbers are at least 0, and one of them is 0.
 fn is_complementary(num: i128, slack: i128) -> bool
-    ensures { IsTrue result ↔ ((pos 0 ≤ℤ num) × (pos 0 ≤ℤ slack) × ((num ≡ pos 0) ⊎ (slack ≡ pos 0))) }
+    ensures { IsTrue result ↔ ((pos 0 ≤ℤ num) × (pos 0 ≤ℤ slack)
+        × ((num ≡ pos 0) ⊎ (slack ≡ pos 0))) }
 {
     num >= 0 && slack >= 0 && (num == 0 || slack == 0)
 }

@@ -83,7 +83,8 @@ fn alone(alloc: Global, vars: Vec<Var>, pairs: Vec<Pair>) -> Result<Game, Fail>
 
 fn knapsack(alloc: Global) -> Result<Game, Fail>
     ensures players { IfOk result (λ game. length (game_of game) ≡ 2) }
-    ensures vars { IfOk result (λ game. (k : ℕ) (player : PlayerOf) → IsPlayer (game_of game) k player → length player.vars ≡ 2) }
+    ensures vars { IfOk result (λ game. (k : ℕ) (player : PlayerOf)
+        → IsPlayer (game_of game) k player → length player.vars ≡ 2) }
 {
     let first = packer(alloc, 1, [3, 4], [-1, -2], [2, 3])?;
     let second = packer(alloc, 0, [2, 5], [-3, -5], [5, 4])?;
@@ -111,7 +112,8 @@ fn first_cost(
     den: i128,
 ) -> Result<Frac, Fail>
     requires players { length (game_of game.now) ≡ 2 }
-    requires vars { (k : ℕ) (player : PlayerOf) → IsPlayer (game_of game.now) k player → length player.vars ≡ 2 }
+    requires vars { (k : ℕ) (player : PlayerOf) → IsPlayer (game_of game.now) k player
+        → length player.vars ≡ 2 }
 {
     let points = vec![in alloc;
         pair_of_values(alloc, x, den)?,
@@ -138,7 +140,8 @@ fn costs_by_hand(rt: HostRuntime) -> Result<(), Fail> {
 /// The first player has terms in the others' variables, one in one and one in two.
 fn three(alloc: Global) -> Result<Game, Fail>
     ensures players { IfOk result (λ game. length (game_of game) ≡ 3) }
-    ensures vars { IfOk result (λ game. (k : ℕ) (player : PlayerOf) → IsPlayer (game_of game) k player → length player.vars ≡ 2) }
+    ensures vars { IfOk result (λ game. (k : ℕ) (player : PlayerOf)
+        → IsPlayer (game_of game) k player → length player.vars ≡ 2) }
 {
     let mut first = packer(alloc, 1, [3, 4], [-1, -2], [2, 3])?;
     first.others = vec![in alloc;
@@ -164,7 +167,8 @@ fn three(alloc: Global) -> Result<Game, Fail>
 /// The first player's cost at these points.
 fn cost_at(game: &Game, points: &[Point]) -> Result<Frac, Fail>
     requires players { length (game_of game.now) ≡ 3 }
-    requires vars { (k : ℕ) (player : PlayerOf) → IsPlayer (game_of game.now) k player → length player.vars ≡ 2 }
+    requires vars { (k : ℕ) (player : PlayerOf) → IsPlayer (game_of game.now) k player
+        → length player.vars ≡ 2 }
     requires points { (length points.now ≡ 3) × All (λ x. length x.num ≡ 2) points.now }
 {
     match cost(game, 0, points) {
