@@ -1,63 +1,79 @@
 -- What goes with the status of a refusal.
-use Rattle.std.proofs.Common.{◌≡◌, ℕ, refl, string_bytes, inl, inr, arith}
+use Rattle.std.proofs.Common.{◌≡◌, ℕ, string_bytes, inl, inr, ◌⊎◌, arith}
 use Rattle.zr_io.specs.Contents.{Bytes, Contents}
-use Rattle.zero.specs.Commands.{Words}
-use Rattle.zero.specs.Answers.{IsFaultyGame, IsRefusedCert}
-use Rattle.zero.specs.Reads.{IsLong}
-use Rattle.zero.specs.Statuses.{IsLine}
-use Rattle.zero.specs.Causes.{IsCause}
-use Rattle.zero.specs.Refusals.{status_of, line_of}
 use Rattle.zr_read.specs.declared.fault.GameFault.{GameFault}
 use Rattle.zero.specs.declared.refusal.CertFlaw.{CertFlaw}
 use Rattle.zero.specs.declared.refusal.Refusal.{Refusal}
-use Rattle.zero.specs.declared.refusal.Refusal.TheVariants.{Usage, CannotRead, LongGame, LongCert, Faulty, Flawed, NoMemory, WriteFault, Unbuilt}
+use Rattle.zero.specs.declared.refusal.Refusal.TheVariants.{Usage, CannotRead, TooLong, Faulty, Flawed, NoMemory, WriteFault, Unbuilt, UnbuiltGame}
+use Rattle.zero.specs.declared.text.Text.{Text}
+use Rattle.zero.specs.declared.text.Text.TheVariants.{Game, Cert}
+use Rattle.zero.specs.Commands.{Words, IsUnbuiltCommand}
+use Rattle.zero.specs.Reads.{IsDue, IsLastTake, IsLong}
+use Rattle.zero.specs.Answers.{IsFaultyGame, IsRefusedCert, IsUnbuiltGame}
+use Rattle.zero.specs.Refusals.{HasTaken, IsCause, status_of}
 
--- the line of a refusal is that of its status
-pub line_of_cause : (words : Words) (contents : Contents) (refusal : Refusal) → IsCause words contents refusal → IsLine words contents (status_of refusal) (line_of refusal)
-line_of_cause words contents Usage h = inl (refl, refl)
-line_of_cause words contents (CannotRead name) h = inr (inl (refl, name.now, h, refl))
-line_of_cause words contents (LongGame name) h = inr (inr (inl (refl, name.now, inl (h, refl))))
-line_of_cause words contents (LongCert name) h = inr (inr (inl (refl, name.now, inr (h, refl))))
-line_of_cause words contents (Faulty fault path) h = inr (inr (inr (inl (refl, fault, string_bytes path, h, refl))))
-line_of_cause words contents (Flawed number flaw) h = inr (inr (inr (inr (inl (refl, number, flaw, h, refl)))))
-line_of_cause words contents NoMemory h = inr (inr (inr (inr (inr (inl (refl, refl))))))
-line_of_cause words contents WriteFault h = inr (inr (inr (inr (inr (inr (inl (refl, refl)))))))
-line_of_cause words contents Unbuilt h = inr (inr (inr (inr (inr (inr (inr (refl, refl)))))))
+module _ (words : Words) (contents : Contents) (before after : ℕ) where
+  -- a text that can't be read is due, and the last that was taken
+  pub unread_of : (refusal : Refusal) → IsCause words contents refusal → HasTaken before after refusal → status_of refusal ≡ 3
+      → (text : Text) × (name : Bytes) × IsDue words contents text name × IsLastTake text before after
+  unread_of Usage h t e = absurd (omega (arith, e))
+  unread_of (CannotRead text name) h t e = (text, name.now, h, t)
+  unread_of (TooLong text name) h t e = absurd (omega (arith, e))
+  unread_of (Faulty fault path) h t e = absurd (omega (arith, e))
+  unread_of (Flawed number flaw) h t e = absurd (omega (arith, e))
+  unread_of NoMemory h t e = absurd (omega (arith, e))
+  unread_of WriteFault h t e = absurd (omega (arith, e))
+  unread_of Unbuilt h t e = absurd (omega (arith, e))
+  unread_of UnbuiltGame h t e = absurd (omega (arith, e))
 
--- the status of a fault comes of a fault
-pub fault_of_cause : (words : Words) (contents : Contents) (refusal : Refusal) → IsCause words contents refusal → status_of refusal ≡ 5
-    → (fault : GameFault) × (path : Bytes) × IsFaultyGame words contents fault path
-fault_of_cause words contents Usage h e = absurd (omega (arith, e))
-fault_of_cause words contents (CannotRead name) h e = absurd (omega (arith, e))
-fault_of_cause words contents (LongGame name) h e = absurd (omega (arith, e))
-fault_of_cause words contents (LongCert name) h e = absurd (omega (arith, e))
-fault_of_cause words contents (Faulty fault path) h e = (fault, string_bytes path, h)
-fault_of_cause words contents (Flawed number flaw) h e = absurd (omega (arith, e))
-fault_of_cause words contents NoMemory h e = absurd (omega (arith, e))
-fault_of_cause words contents WriteFault h e = absurd (omega (arith, e))
-fault_of_cause words contents Unbuilt h e = absurd (omega (arith, e))
+  -- so is one that is too long
+  pub long_of : (refusal : Refusal) → IsCause words contents refusal → HasTaken before after refusal → status_of refusal ≡ 4
+      → (text : Text) × (name : Bytes) × IsLong words contents text name × IsLastTake text before after
+  long_of Usage h t e = absurd (omega (arith, e))
+  long_of (CannotRead text name) h t e = absurd (omega (arith, e))
+  long_of (TooLong text name) h t e = (text, name.now, h, t)
+  long_of (Faulty fault path) h t e = absurd (omega (arith, e))
+  long_of (Flawed number flaw) h t e = absurd (omega (arith, e))
+  long_of NoMemory h t e = absurd (omega (arith, e))
+  long_of WriteFault h t e = absurd (omega (arith, e))
+  long_of Unbuilt h t e = absurd (omega (arith, e))
+  long_of UnbuiltGame h t e = absurd (omega (arith, e))
 
--- the status of a refused certificate comes of one
-pub flaw_of_cause : (words : Words) (contents : Contents) (refusal : Refusal) → IsCause words contents refusal → status_of refusal ≡ 6
-    → (number : ℕ) × (flaw : CertFlaw) × IsRefusedCert words contents number flaw
-flaw_of_cause words contents Usage h e = absurd (omega (arith, e))
-flaw_of_cause words contents (CannotRead name) h e = absurd (omega (arith, e))
-flaw_of_cause words contents (LongGame name) h e = absurd (omega (arith, e))
-flaw_of_cause words contents (LongCert name) h e = absurd (omega (arith, e))
-flaw_of_cause words contents (Faulty fault path) h e = absurd (omega (arith, e))
-flaw_of_cause words contents (Flawed number flaw) h e = (number, flaw, h)
-flaw_of_cause words contents NoMemory h e = absurd (omega (arith, e))
-flaw_of_cause words contents WriteFault h e = absurd (omega (arith, e))
-flaw_of_cause words contents Unbuilt h e = absurd (omega (arith, e))
+  -- a fault is that of the game
+  pub fault_of : (refusal : Refusal) → IsCause words contents refusal → HasTaken before after refusal → status_of refusal ≡ 5
+      → (fault : GameFault) × (path : Bytes) × IsFaultyGame words contents fault path × IsLastTake Game before after
+  fault_of Usage h t e = absurd (omega (arith, e))
+  fault_of (CannotRead text name) h t e = absurd (omega (arith, e))
+  fault_of (TooLong text name) h t e = absurd (omega (arith, e))
+  fault_of (Faulty fault path) h t e = (fault, string_bytes path, h, t)
+  fault_of (Flawed number flaw) h t e = absurd (omega (arith, e))
+  fault_of NoMemory h t e = absurd (omega (arith, e))
+  fault_of WriteFault h t e = absurd (omega (arith, e))
+  fault_of Unbuilt h t e = absurd (omega (arith, e))
+  fault_of UnbuiltGame h t e = absurd (omega (arith, e))
 
--- the status of a long content comes of one
-pub long_of_cause : (words : Words) (contents : Contents) (refusal : Refusal) → IsCause words contents refusal → status_of refusal ≡ 4 → IsLong words contents
-long_of_cause words contents Usage h e = absurd (omega (arith, e))
-long_of_cause words contents (CannotRead name) h e = absurd (omega (arith, e))
-long_of_cause words contents (LongGame name) h e = (name.now, inl h)
-long_of_cause words contents (LongCert name) h e = (name.now, inr h)
-long_of_cause words contents (Faulty fault path) h e = absurd (omega (arith, e))
-long_of_cause words contents (Flawed number flaw) h e = absurd (omega (arith, e))
-long_of_cause words contents NoMemory h e = absurd (omega (arith, e))
-long_of_cause words contents WriteFault h e = absurd (omega (arith, e))
-long_of_cause words contents Unbuilt h e = absurd (omega (arith, e))
+  -- a refused line is one of the certificate
+  pub flaw_of : (refusal : Refusal) → IsCause words contents refusal → HasTaken before after refusal → status_of refusal ≡ 6
+      → (number : ℕ) × (flaw : CertFlaw) × IsRefusedCert words contents number flaw × IsLastTake Cert before after
+  flaw_of Usage h t e = absurd (omega (arith, e))
+  flaw_of (CannotRead text name) h t e = absurd (omega (arith, e))
+  flaw_of (TooLong text name) h t e = absurd (omega (arith, e))
+  flaw_of (Faulty fault path) h t e = absurd (omega (arith, e))
+  flaw_of (Flawed number flaw) h t e = (number, flaw, h, t)
+  flaw_of NoMemory h t e = absurd (omega (arith, e))
+  flaw_of WriteFault h t e = absurd (omega (arith, e))
+  flaw_of Unbuilt h t e = absurd (omega (arith, e))
+  flaw_of UnbuiltGame h t e = absurd (omega (arith, e))
+
+  -- what isn't built is asked for by the words, or in the game
+  pub unbuilt_of : (refusal : Refusal) → IsCause words contents refusal → HasTaken before after refusal → status_of refusal ≡ 16
+      → IsUnbuiltCommand words ⊎ (IsUnbuiltGame words contents × IsLastTake Game before after)
+  unbuilt_of Usage h t e = absurd (omega (arith, e))
+  unbuilt_of (CannotRead text name) h t e = absurd (omega (arith, e))
+  unbuilt_of (TooLong text name) h t e = absurd (omega (arith, e))
+  unbuilt_of (Faulty fault path) h t e = absurd (omega (arith, e))
+  unbuilt_of (Flawed number flaw) h t e = absurd (omega (arith, e))
+  unbuilt_of NoMemory h t e = absurd (omega (arith, e))
+  unbuilt_of WriteFault h t e = absurd (omega (arith, e))
+  unbuilt_of Unbuilt h t e = inl h
+  unbuilt_of UnbuiltGame h t e = inr (h, t)

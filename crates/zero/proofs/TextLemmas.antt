@@ -5,7 +5,7 @@ use Rattle.std.proofs.lemmas.Fmt.{decimal_digit}
 use Rattle.std.specs.Fmt.{decimal, signed_decimal}
 use Rattle.zr_base.specs.Points.{PointOf}
 use Rattle.zr_game.specs.Profiles.{Strategy, Profile, surely}
-use Rattle.zero.specs.Commands.{Bytes}
+use Rattle.zr_io.specs.Contents.{Bytes}
 use Rattle.zero.specs.ShortText.{spaced, all_spaced, player_block, player_blocks}
 
 -- ---- numbers

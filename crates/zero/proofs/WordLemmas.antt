@@ -4,7 +4,8 @@ use Rattle.std.specs.Option.{option_map}
 use Rattle.std.specs.Str.{bytes_eq}
 use Rattle.std.proofs.lemmas.Option.{slice_get-map, slice_get_read, slice_get_past, same_Some}
 use Rattle.std.proofs.lemmas.Slice.Eq.{bytes_eq-Decides}
-use Rattle.zero.specs.Commands.{Bytes, Words, IsCheck, IsOtherAction}
+use Rattle.zr_io.specs.Contents.{Bytes}
+use Rattle.zero.specs.Commands.{Words, IsCheck, IsOtherAction}
 
 -- whether the word at a place is this text
 pub word_at : {A : Type 0} (f : A → Bytes) (ws : List A) (i : ℕ) (w : A) (s t : Bytes) (r : Bool) → i < length ws → w ≡ get_or ws i w → s ≡ f w → r ≡ bytes_eq s t → IsTrue r ↔ (slice_get (map f ws) i ≡ Some t)

@@ -4,11 +4,12 @@ use Rattle.std.proofs.lemmas.List.{take_all, take-append-le, length-append}
 use Rattle.zr_form.specs.Numbers.{decimal}
 use Rattle.zr_io.specs.Contents.{Bytes}
 use Rattle.zero.specs.declared.refusal.CertFlaw.{CertFlaw}
+use Rattle.zero.specs.declared.text.Text.{Text}
 use Rattle.zr_io.specs.Written.{Appends, AppendsPrefix}
 use Rattle.zr_read.specs.Faults.{fault_name}
 use Rattle.zr_read.specs.declared.fault.GameFault.{GameFault}
 use Rattle.zr_read.specs.declared.fault.GameFault.TheVariants.{NotJson, Format, Missing, Kind, NotWhole, TooBig, BadName, Twice, UnknownName, OwnCross, Count}
-use Rattle.zero.specs.Messages.{message, fault_line, fault_text, flaw_line, flaw_name, long_cert_line, long_game_line}
+use Rattle.zero.specs.Messages.{excess, message, fault_line, fault_text, flaw_line, flaw_name, long_line}
 use Rattle.zr_io.proofs.AppendsLemmas.{appends_append, appends_prefix_append}
 
 -- a prefix of a piece is one of the piece and another
@@ -78,16 +79,13 @@ fault_pieces fault path name other e =
     ∙ rejoin (codes "zero: game: ") (fault_name fault) (32 ∷ []) path (10 ∷ [])
     ∙ ap message (ap (λ t. codes "game: " ++ t) (sym (fault_text_else fault path other)))
 
--- ---- the line of a long content
+-- ---- the line of a text that is too long
 
 joined : (a n b e : Bytes) → (a ++ n) ++ (b ++ e) ≡ (a ++ (n ++ b)) ++ e
 joined a n b e = simp append_assoc
 
-pub long_game : (name : Bytes) → (codes "zero: " ++ name) ++ (codes " is longer than 8388608 bytes" ++ 10 ∷ []) ≡ long_game_line name
-long_game name = joined (codes "zero: ") name (codes " is longer than 8388608 bytes") (10 ∷ [])
-
-pub long_cert : (name : Bytes) → (codes "zero: " ++ name) ++ (codes " is longer than 67108864 bytes" ++ 10 ∷ []) ≡ long_cert_line name
-long_cert name = joined (codes "zero: ") name (codes " is longer than 67108864 bytes") (10 ∷ [])
+pub long_pieces : (text : Text) (name : Bytes) → (codes "zero: " ++ name) ++ (excess text ++ 10 ∷ []) ≡ long_line text name
+long_pieces text name = joined (codes "zero: ") name (excess text) (10 ∷ [])
 
 -- ---- the line of a refused certificate
 

@@ -1,5 +1,5 @@
 -- What an answer says, and why there is none.
-use Rattle.std.specs.Prelude.{◌≡◌, ℕ, ◌≤◌, List, ◌++◌, length, Option, Some, codes, ◌⊎◌}
+use Rattle.std.specs.Prelude.{◌≡◌, ℕ, List, ◌++◌, length, Option, codes, ◌⊎◌}
 use Rattle.zr_base.specs.Points.{PointOf}
 use Rattle.zr_game.specs.Players.{GameOf}
 use Rattle.zr_game.specs.Equilibria.{HasNoEquilibrium}
@@ -19,7 +19,7 @@ use Rattle.zr_check.specs.Truth.{IsTrueVerdict}
 use Rattle.zr_check.specs.WideSteps.{HasWideStep}
 use Rattle.zr_text.specs.declared.fault.TextError.TheVariants as texts
 use Rattle.zr_text.specs.Faults.{IsText, IsTextFault}
-use Rattle.zero.specs.Commands.{Words, IsCheck, IsGameName, IsSolvePure}
+use Rattle.zero.specs.Commands.{Words, IsGameName, IsSolvePure}
 use Rattle.zero.specs.Reads.{IsDueCert, IsRead, cert_limit, game_limit}
 use Rattle.zero.specs.ShortText.{line, none_text, profile_text}
 use Rattle.zero.specs.declared.refusal.CertFlaw.{CertFlaw}
@@ -106,16 +106,20 @@ pub record IsFaultyGame (words : Words) (contents : Contents) (fault : GameFault
   pub read : IsRead contents game_limit name bytes
   pub first : HasFirstFault bytes fault path
 
--- the bytes have pairs or followers, or stand for a game that is out of reach
-abbrev pub IsUnanswerable : Bytes → Type 0
-IsUnanswerable bytes = IsUnbuilt bytes ⊎ ((game : GameOf) × StandsFor bytes game × (IsWithinReach game → ⊥))
+-- the words ask for a pure equilibrium of the game, which is out of reach
+pub record IsOutOfReach (words : Words) (name bytes : Bytes) : Type 0 where
+  pub solve : IsSolvePure words name
+  pub game : GameOf
+  pub stands : StandsFor bytes game
+  pub far : IsWithinReach game → ⊥
 
--- the game text that was read is so; for a check it has pairs or followers
+-- the game text that was read has parts that are not read yet, or the game is out of reach
 pub record IsUnbuiltGame (words : Words) (contents : Contents) : Type 0 where
   pub name : Bytes
   pub bytes : Bytes
+  pub named : IsGameName words name
   pub read : IsRead contents game_limit name bytes
-  pub unbuilt : (IsSolvePure words name × IsUnanswerable bytes) ⊎ ((cert : Bytes) × IsCheck words name cert × IsUnbuilt bytes)
+  pub unbuilt : IsUnbuilt bytes ⊎ IsOutOfReach words name bytes
 
 -- why a certificate text is refused at a line: it is out of form, a number's size alone is at fault, or the certificate
 -- that it is breaks a rule there or has a step that is too wide
@@ -131,26 +135,3 @@ pub record IsRefusedCert (words : Words) (contents : Contents) (number : ℕ) (f
   pub bytes : Bytes
   pub asked : IsAskedCheck words contents game bytes
   pub flawed : IsFlawed game bytes number flaw
-
--- ---- where the shelf tells its contents
-
--- the words ask for a check of contents that are told and within their limits, and the game text stands for the game
-pub record IsToldCheck (words : Words) (contents : Contents) (game : GameOf) (bytes : Bytes) : Type 0 where
-  pub game_name : Bytes
-  pub cert_name : Bytes
-  pub check : IsCheck words game_name cert_name
-  pub get : Bytes → Option Bytes
-  pub told : contents ≡ Some get
-  pub game_bytes : Bytes
-  pub game_told : get game_name ≡ Some game_bytes
-  pub game_within : length game_bytes ≤ game_limit
-  pub stands : StandsFor game_bytes game
-  pub cert_told : get cert_name ≡ Some bytes
-  pub cert_within : length bytes ≤ cert_limit
-
--- the status of such a check is 0 where a right certificate's text was told, and 6 where none was; want of memory is free
-abbrev pub IsVerdictOf : GameOf → Bytes → ℕ → Type 0
-IsVerdictOf game bytes status =
-    ((status ≡ 0) × (cert : CertOf) × IsRightText game bytes cert)
-    ⊎ ((status ≡ 6) × ((cert : CertOf) → IsRightText game bytes cert → ⊥))
-    ⊎ (status ≡ 11)

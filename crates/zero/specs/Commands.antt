@@ -1,12 +1,17 @@
 -- What the words of the command line ask for.
-use Rattle.std.specs.Prelude.{◌≡◌, ℕ, List, [], ◌∷◌, codes, ◌⊎◌}
-
-abbrev pub Bytes : Type 0
-Bytes = List ℕ
+use Rattle.std.specs.Prelude.{◌≡◌, List, [], ◌∷◌, map, codes, String, string_bytes, ◌⊎◌}
+use Rattle.std.specs.declared.alloc.Global.{Global}
+use Rattle.zr_io.specs.Contents.{Bytes}
+use Rattle.zero.specs.declared.command.Command.{Command}
+use Rattle.zero.specs.declared.command.Command.TheVariants.{SolvePure, Check, Unbuilt, Faulty}
 
 -- the words without the program's name
 abbrev pub Words : Type 0
 Words = List Bytes
+
+-- the bytes of each word
+abbrev pub spelled : List (String Global) → Words
+spelled = map string_bytes
 
 -- `solve GAME --kind pure`
 abbrev pub IsSolvePure : Words → Bytes → Type 0
@@ -39,3 +44,10 @@ pub record IsFaultyCommand (words : Words) : Type 0 where
 -- the words name this game
 abbrev pub IsGameName : Words → Bytes → Type 0
 IsGameName words name = IsSolvePure words name ⊎ ((cert : Bytes) × IsCheck words name cert)
+
+-- the words ask for the command
+abbrev pub Says : Words → Command → Type 0
+Says words (SolvePure name) = IsSolvePure words name.now
+Says words (Check game cert) = IsCheck words game.now cert.now
+Says words Unbuilt = IsUnbuiltCommand words
+Says words Faulty = IsFaultyCommand words

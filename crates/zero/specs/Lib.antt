@@ -1,9 +1,7 @@
 pub mod Commands
-pub mod Commanded
 pub mod ShortText
 pub mod Reads
 pub mod Messages
 pub mod Answers
-pub mod Statuses
 pub mod Refusals
-pub mod Causes
+pub mod Told

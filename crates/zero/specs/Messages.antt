@@ -7,6 +7,8 @@ use Rattle.zr_read.specs.declared.fault.GameFault.TheVariants.{NotJson}
 use Rattle.zr_read.specs.Faults.{fault_name}
 use Rattle.zero.specs.declared.refusal.CertFlaw.{CertFlaw}
 use Rattle.zero.specs.declared.refusal.CertFlaw.TheVariants.{Form, Number, Wrong, Wide}
+use Rattle.zero.specs.declared.text.Text.{Text}
+use Rattle.zero.specs.declared.text.Text.TheVariants.{Game, Cert}
 use Rattle.zero.specs.ShortText.{line}
 
 -- a line of the program
@@ -22,12 +24,14 @@ fault_text fault path = fault_name fault ++ 32 ∷ path
 abbrev pub fault_line : GameFault → Bytes → Bytes
 fault_line fault path = message (codes "game: " ++ fault_text fault path)
 
--- a game text of more bytes, and a certificate text of more
-abbrev pub long_game_line : Bytes → Bytes
-long_game_line name = message (name ++ codes " is longer than 8388608 bytes")
+-- what is said of a text that is too long
+abbrev pub excess : Text → Bytes
+excess Game = codes " is longer than 8388608 bytes"
+excess Cert = codes " is longer than 67108864 bytes"
 
-abbrev pub long_cert_line : Bytes → Bytes
-long_cert_line name = message (name ++ codes " is longer than 67108864 bytes")
+-- the line of a text that is too long
+abbrev pub long_line : Text → Bytes → Bytes
+long_line text name = message (name ++ excess text)
 
 abbrev pub flaw_name : CertFlaw → Bytes
 flaw_name Form = codes "form"

@@ -1,11 +1,11 @@
--- What was read: the contents that the words name.
-use Rattle.std.specs.Prelude.{◌≡◌, ℕ, ◌≤◌, length, Option, Some, ◌⊎◌}
+-- What was taken from the shelf: the texts that the words name.
+use Rattle.std.specs.Prelude.{◌≡◌, ℕ, ◌≤◌, length, Option, Some, None}
 use Rattle.zr_io.specs.Contents.{Bytes, Contents, HoldsMore}
+use Rattle.zr_io.specs.Faults.{next_count}
 use Rattle.zr_game.specs.Players.{GameOf}
-use Rattle.zr_game.specs.Forms.{IsGame}
 use Rattle.zr_read.specs.Texts.{StandsFor}
-use Rattle.zero.specs.declared.reading.Text.{Text}
-use Rattle.zero.specs.declared.reading.Text.TheVariants.{Game, Cert}
+use Rattle.zero.specs.declared.text.Text.{Text}
+use Rattle.zero.specs.declared.text.Text.TheVariants.{Game, Cert}
 use Rattle.zero.specs.Commands.{Words, IsCheck, IsGameName}
 
 -- the greatest length of a game text
@@ -20,11 +20,31 @@ abbrev pub limit_of : Text → ℕ
 limit_of Game = game_limit
 limit_of Cert = cert_limit
 
+-- the text was the last to be taken: a game's is the first take, a certificate's the second
+abbrev pub IsLastTake : Text → ℕ → ℕ → Type 0
+IsLastTake Game before after = after ≡ next_count before
+IsLastTake Cert before after = after ≡ next_count (next_count before)
+
+-- ---- contents
+
+-- the shelf tells that it lacks the name
+pub record Lacks (contents : Contents) (name : Bytes) : Type 0 where
+  pub get : Bytes → Option Bytes
+  pub told : contents ≡ Some get
+  pub none : get name ≡ None
+
+-- the shelf tells that the name holds these bytes, at most so many
+pub record IsTold (contents : Contents) (limit : ℕ) (name bytes : Bytes) : Type 0 where
+  pub get : Bytes → Option Bytes
+  pub told : contents ≡ Some get
+  pub holds : get name ≡ Some bytes
+  pub within : length bytes ≤ limit
+
 -- where the shelf tells its contents, the name holds these bytes
 abbrev pub IsContent : Contents → Bytes → Bytes → Type 0
 IsContent contents name bytes = (get : Bytes → Option Bytes) → contents ≡ Some get → get name ≡ Some bytes
 
--- these bytes were read under the name, at most so many
+-- these bytes were read under the name, at most so many; where the shelf tells nothing, any bytes may have been
 pub record IsRead (contents : Contents) (limit : ℕ) (name bytes : Bytes) : Type 0 where
   pub content : IsContent contents name bytes
   pub within : length bytes ≤ limit
@@ -33,6 +53,8 @@ pub record IsRead (contents : Contents) (limit : ℕ) (name bytes : Bytes) : Typ
 abbrev pub IsMore : Contents → ℕ → Bytes → Type 0
 IsMore contents limit name = (get : Bytes → Option Bytes) → contents ≡ Some get → HoldsMore get name limit
 
+-- ---- names
+
 -- the words ask for a check of the certificate under this name, and the game text that was read stands for the game
 pub record IsDueCert (words : Words) (contents : Contents) (game : GameOf) (name : Bytes) : Type 0 where
   pub game_name : Bytes
@@ -40,17 +62,13 @@ pub record IsDueCert (words : Words) (contents : Contents) (game : GameOf) (name
   pub bytes : Bytes
   pub read : IsRead contents game_limit game_name bytes
   pub stands : StandsFor bytes game
-  pub form : IsGame game
 
-abbrev pub IsDue : Words → Contents → Bytes → Type 0
-IsDue words contents name = (game : GameOf) × IsDueCert words contents game name
+-- the text under this name is due: a game that the words name, or a certificate once the game text stands for a game
+abbrev pub IsDue : Words → Contents → Text → Bytes → Type 0
+IsDue words contents Game name = IsGameName words name
+IsDue words contents Cert name = (game : GameOf) × IsDueCert words contents game name
 
--- a game that the words name, or a certificate that is due, is too long
-abbrev pub IsLongGame : Words → Contents → Bytes → Type 0
-IsLongGame words contents name = IsGameName words name × IsMore contents game_limit name
-
-abbrev pub IsLongCert : Words → Contents → Bytes → Type 0
-IsLongCert words contents name = IsDue words contents name × IsMore contents cert_limit name
-
-abbrev pub IsLong : Words → Contents → Type 0
-IsLong words contents = (name : Bytes) × (IsLongGame words contents name ⊎ IsLongCert words contents name)
+-- a text that is due is too long
+pub record IsLong (words : Words) (contents : Contents) (text : Text) (name : Bytes) : Type 0 where
+  pub due : IsDue words contents text name
+  pub more : IsMore contents (limit_of text) name

@@ -1,30 +1,90 @@
 -- Why the program refuses, and what it says and ends with then.
-use Rattle.std.specs.Prelude.{ℕ, ◌++◌, codes, string_bytes}
-use Rattle.zr_io.specs.Contents.{Bytes}
+use Rattle.std.specs.Prelude.{◌≡◌, ◌≢◌, ℕ, ◌≤◌, ◌++◌, codes, string_bytes, Result, IfErr}
+use Rattle.zr_io.specs.Contents.{Bytes, Contents}
+use Rattle.zr_io.specs.Faults.{Rose}
 use Rattle.zero.specs.declared.refusal.Refusal.{Refusal}
-use Rattle.zero.specs.declared.refusal.Refusal.TheVariants.{Usage, CannotRead, LongGame, LongCert, Faulty, Flawed, NoMemory, WriteFault, Unbuilt}
-use Rattle.zero.specs.Messages.{fault_line, flaw_line, long_cert_line, long_game_line, message}
+use Rattle.zero.specs.declared.refusal.Refusal.TheVariants.{Usage, CannotRead, TooLong, Faulty, Flawed, NoMemory, WriteFault, Unbuilt, UnbuiltGame}
+use Rattle.zero.specs.declared.text.Text.{Text}
+use Rattle.zero.specs.declared.text.Text.TheVariants.{Game, Cert}
+use Rattle.zero.specs.Commands.{Words, IsFaultyCommand, IsGameName, IsUnbuiltCommand}
+use Rattle.zero.specs.Reads.{IsDue, IsLastTake, IsLong}
+use Rattle.zero.specs.Answers.{IsFaultyGame, IsRefusedCert, IsUnbuiltGame}
+use Rattle.zero.specs.Messages.{fault_line, flaw_line, long_line, message}
+
+-- ---- what each refusal is
 
 -- the status to end with
 abbrev pub status_of : Refusal → ℕ
 status_of Usage = 2
-status_of (CannotRead name) = 3
-status_of (LongGame name) = 4
-status_of (LongCert name) = 4
+status_of (CannotRead text name) = 3
+status_of (TooLong text name) = 4
 status_of (Faulty fault path) = 5
 status_of (Flawed number flaw) = 6
 status_of NoMemory = 11
 status_of WriteFault = 12
 status_of Unbuilt = 16
+status_of UnbuiltGame = 16
 
 -- the line that says why
 abbrev pub line_of : Refusal → Bytes
 line_of Usage = message (codes "usage")
-line_of (CannotRead name) = message (codes "cannot read " ++ name.now)
-line_of (LongGame name) = long_game_line name.now
-line_of (LongCert name) = long_cert_line name.now
+line_of (CannotRead text name) = message (codes "cannot read " ++ name.now)
+line_of (TooLong text name) = long_line text name.now
 line_of (Faulty fault path) = fault_line fault (string_bytes path)
 line_of (Flawed number flaw) = flaw_line number flaw
 line_of NoMemory = message (codes "no memory")
 line_of WriteFault = message (codes "write fault")
 line_of Unbuilt = message (codes "not built yet")
+line_of UnbuiltGame = message (codes "not built yet")
+
+-- the words name a game; memory is taken and an answer written only then
+abbrev pub NamesGame : Words → Type 0
+NamesGame words = (name : Bytes) × IsGameName words name
+
+-- why the words have no answer
+abbrev pub IsCause : Words → Contents → Refusal → Type 0
+IsCause words contents Usage = IsFaultyCommand words
+IsCause words contents (CannotRead text name) = IsDue words contents text name.now
+IsCause words contents (TooLong text name) = IsLong words contents text name.now
+IsCause words contents (Faulty fault path) = IsFaultyGame words contents fault (string_bytes path)
+IsCause words contents (Flawed number flaw) = IsRefusedCert words contents number flaw
+IsCause words contents NoMemory = NamesGame words
+IsCause words contents WriteFault = NamesGame words
+IsCause words contents Unbuilt = IsUnbuiltCommand words
+IsCause words contents UnbuiltGame = IsUnbuiltGame words contents
+
+-- what was taken before the refusal, by the counts of takes: nothing, or last the text that it speaks of
+abbrev pub HasTaken : ℕ → ℕ → Refusal → Type 0
+HasTaken before after Usage = after ≡ before
+HasTaken before after (CannotRead text name) = IsLastTake text before after
+HasTaken before after (TooLong text name) = IsLastTake text before after
+HasTaken before after (Faulty fault path) = IsLastTake Game before after
+HasTaken before after (Flawed number flaw) = IsLastTake Cert before after
+HasTaken before after NoMemory = Unit {0}
+HasTaken before after WriteFault = Unit {0}
+HasTaken before after Unbuilt = after ≡ before
+HasTaken before after UnbuiltGame = IsLastTake Game before after
+
+-- ---- what the program says
+
+-- the line that goes with a status, by the counts of takes before and after
+pub record IsLine (words : Words) (contents : Contents) (before after status : ℕ) (line : Bytes) : Type 0 where
+  pub refusal : Refusal
+  pub cause : IsCause words contents refusal
+  pub taken : HasTaken before after refusal
+  pub says_status : status ≡ status_of refusal
+  pub says_line : line ≡ line_of refusal
+
+-- ---- the steps
+
+-- what a call that takes from a shelf keeps of it, and that it finds a text unreadable only where the shelf failed
+pub record Keeps {S T : Type 0} (contents_of : S → Contents) (faults_of : S → ℕ) (before after : S) (result : Result T Refusal) : Type 0 where
+  pub contents : contents_of after ≡ contents_of before
+  pub faults : faults_of before ≤ faults_of after
+  pub unread : IfErr result (λ refusal. status_of refusal ≡ 3 → Rose (faults_of before) (faults_of after))
+
+-- a refusal that comes of a text that was taken
+pub record ComesOf (text : Text) (refusal : Refusal) : Type 0 where
+  pub taken : (before after : ℕ) → IsLastTake text before after → HasTaken before after refusal
+  pub read : status_of refusal ≢ 3
+  pub unwritten : status_of refusal ≢ 12

@@ -2,7 +2,7 @@
 use Rattle.std.specs.Prelude.{ℕ, ◌+◌, ℤ, List, [], ◌∷◌, ◌++◌, length, codes}
 use Rattle.std.specs.Fmt.{decimal, signed_decimal}
 use Rattle.zr_game.specs.Profiles.{Part, Strategy, Profile, total}
-use Rattle.zero.specs.Commands.{Bytes}
+use Rattle.zr_io.specs.Contents.{Bytes}
 
 -- the text and a line feed
 abbrev pub line : Bytes → Bytes

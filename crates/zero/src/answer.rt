@@ -1,10 +1,9 @@
-ghost use Rattle.std.specs.Prelude.{◌≡◌, ◌≢◌, ◌≤◌, Option, Some, None, IfOk, IfErr, IsErrAnd, map, string_bytes};
-ghost use Rattle.zr_io.specs.Faults.{Rose};
+ghost use Rattle.std.specs.Prelude.{◌≡◌, ◌≢◌, IfOk, IfErr, IsErrAnd, string_bytes};
 ghost use Rattle.zr_io.specs.Contents.{Bytes};
-ghost use Rattle.zero.specs.Commands.{IsGameName};
+ghost use Rattle.zero.specs.Commands.{IsGameName, spelled};
 ghost use Rattle.zero.specs.Answers.{IsAnswer};
-ghost use Rattle.zero.specs.Causes.{IsCause};
-ghost use Rattle.zero.specs.Refusals.{status_of};
+ghost use Rattle.zero.specs.Reads.{Lacks};
+ghost use Rattle.zero.specs.Refusals.{HasTaken, IsCause, Keeps, status_of};
 
 use crate::check::check;
 use crate::command::{Command, command_of};
@@ -19,20 +18,16 @@ pub fn answer_to<'w, S: Shelf>(
     words: &'w [String],
     shelf: &mut S,
 ) -> Result<String, Refusal<'w>>
-    ensures ok { IfOk result (λ text. IsAnswer (map string_bytes words.now) (S.contents shelf.old)
+    ensures ok { IfOk result (λ text. IsAnswer (spelled words.now) (S.contents shelf.old)
         (string_bytes text)) }
-    ensures err { IfErr result (IsCause (map string_bytes words.now) (S.contents shelf.old)) }
+    ensures err { IfErr result (IsCause (spelled words.now) (S.contents shelf.old)) }
 
-    ensures unread { IfErr result (λ refusal. status_of refusal ≡ 3
-        → Rose (S.faults_of shelf.old) (S.faults_of shelf.new)) }
-    ensures lacks { (name : Bytes) (get : Bytes → Option Bytes)
-        → IsGameName (map string_bytes words.now) name
-        → S.contents shelf.old ≡ Some get → get name ≡ None
+    ensures keeps { Keeps S.contents S.faults_of shelf.old shelf.new result }
+    ensures lacks { (name : Bytes) → IsGameName (spelled words.now) name
+        → Lacks (S.contents shelf.old) name
         → IsErrAnd result (λ refusal. status_of refusal ≡ 3) }
+    ensures taken { IfErr result (HasTaken (S.takes_of shelf.old) (S.takes_of shelf.new)) }
     ensures unwritten { IfErr result (λ refusal. status_of refusal ≢ 12) }
-
-    ensures contents { S.contents shelf.new ≡ S.contents shelf.old }
-    ensures grows { S.faults_of shelf.old ≤ S.faults_of shelf.new }
 {
     match command_of(words) {
         Command::SolvePure { name } => solve(alloc, name, shelf),

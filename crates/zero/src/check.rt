@@ -1,19 +1,18 @@
-ghost use Rattle.std.specs.Prelude.{◌≡◌, ◌≢◌, ◌≤◌, Option, Some, None, IfOk, IfErr, IsErrAnd, length, string_bytes};
+ghost use Rattle.std.specs.Prelude.{◌≡◌, ◌≢◌, ◌≤◌, IfOk, IfErr, IsErrAnd, length, string_bytes};
 ghost use Rattle.zr_game.specs.Games.{game_of};
 ghost use Rattle.zr_game.specs.Players.{GameOf};
-ghost use Rattle.zr_io.specs.Contents.{Bytes};
-ghost use Rattle.zr_io.specs.Faults.{Rose};
+ghost use Rattle.zr_io.specs.Contents.{Contents};
 ghost use Rattle.zr_cert.specs.Certs.{verdict_of};
 ghost use Rattle.zr_cert.specs.Listed.{cert_of};
 ghost use Rattle.zr_text.specs.Faults.{IsText};
 ghost use Rattle.zero.specs.Commands.{IsCheck, Words};
-ghost use Rattle.zero.specs.Answers.{IsAccepted, IsAnswer, accepted_text, kind_name, verdict_name};
-ghost use Rattle.zero.specs.Causes.{IsCause, IsCertFlaw};
-ghost use Rattle.zero.specs.Reads.{cert_limit};
-ghost use Rattle.zero.specs.Refusals.{status_of};
+ghost use Rattle.zero.specs.Answers.{IsAccepted, IsAnswer, IsAskedCheck, accepted_text, kind_name, verdict_name};
+ghost use Rattle.zero.specs.Reads.{Lacks, cert_limit};
+ghost use Rattle.zero.specs.Refusals.{ComesOf, HasTaken, IsCause, Keeps, status_of};
 
-use crate::reading::{Text, content_of, game_in};
+use crate::reading::{content_of, game_in};
 use crate::refusal::{CertFlaw, Refusal};
+use crate::text::Text;
 use std::alloc::Global;
 use zr_check::{Cert, CertFault, Verdict, check_cert, scratch_for};
 use zr_game::{Game, Kind};
@@ -32,15 +31,11 @@ pub fn check<'w, S: Shelf>(
     ensures err { (words : Words) → IsCheck words game_name.now cert_name.now
         → IfErr result (IsCause words (S.contents shelf.old)) }
 
-    ensures unread { IfErr result (λ refusal. status_of refusal ≡ 3
-        → Rose (S.faults_of shelf.old) (S.faults_of shelf.new)) }
-    ensures lacks { (get : Bytes → Option Bytes)
-        → S.contents shelf.old ≡ Some get → get game_name.now ≡ None
+    ensures keeps { Keeps S.contents S.faults_of shelf.old shelf.new result }
+    ensures lacks { Lacks (S.contents shelf.old) game_name.now
         → IsErrAnd result (λ refusal. status_of refusal ≡ 3) }
+    ensures taken { IfErr result (HasTaken (S.takes_of shelf.old) (S.takes_of shelf.new)) }
     ensures unwritten { IfErr result (λ refusal. status_of refusal ≢ 12) }
-
-    ensures contents { S.contents shelf.new ≡ S.contents shelf.old }
-    ensures grows { S.faults_of shelf.old ≤ S.faults_of shelf.new }
 {
     let game_text = content_of(shelf, game_name, Text::Game)?;
     let game = game_in(alloc, game_text.as_slice())?;
@@ -52,7 +47,10 @@ pub fn check<'w, S: Shelf>(
 fn accept<'w>(alloc: Global, game: &Game, bytes: &[u8]) -> Result<String, Refusal<'w>>
     requires { length bytes.now ≤ cert_limit }
     ensures ok { IfOk result (λ text. IsAccepted (game_of game.now) bytes.now (string_bytes text)) }
-    ensures err { IfErr result (IsCertFlaw (game_of game.now) bytes.now) }
+    ensures err { (words : Words) (contents : Contents)
+        → IsAskedCheck words contents (game_of game.now) bytes.now
+        → IfErr result (IsCause words contents) }
+    ensures comes { IfErr result (ComesOf Text.Cert) }
 {
     let cert = cert_in(alloc, bytes)?;
     let Ok(mut room) = scratch_for(alloc, game, &cert) else {
@@ -69,7 +67,9 @@ fn accept<'w>(alloc: Global, game: &Game, bytes: &[u8]) -> Result<String, Refusa
 fn cert_in<'w>(alloc: Global, bytes: &[u8]) -> Result<Cert, Refusal<'w>>
     requires { length bytes.now ≤ cert_limit }
     ensures ok { IfOk result (λ cert. IsText (cert_of cert) bytes.now) }
-    ensures err { (game : GameOf) → IfErr result (IsCertFlaw game bytes.now) }
+    ensures err { (words : Words) (contents : Contents) (game : GameOf)
+        → IsAskedCheck words contents game bytes.now → IfErr result (IsCause words contents) }
+    ensures comes { IfErr result (ComesOf Text.Cert) }
 {
     match read_cert(alloc, bytes) {
         Ok(cert) => Ok(cert),

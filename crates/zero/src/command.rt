@@ -1,6 +1,6 @@
-ghost use Rattle.std.specs.Prelude.{◌≡◌, ◌↔◌, [], ◌∷◌, codes, map, string_bytes, IsTrue, slice_get, Some};
-ghost use Rattle.zero.specs.Commanded.{Says};
-ghost use Rattle.zero.specs.Commands.{Bytes, IsCheck, IsOtherAction, IsUnbuiltCommand};
+ghost use Rattle.std.specs.Prelude.{◌≡◌, ◌↔◌, [], ◌∷◌, codes, IsTrue, slice_get, Some};
+ghost use Rattle.zr_io.specs.Contents.{Bytes};
+ghost use Rattle.zero.specs.Commands.{IsCheck, IsOtherAction, IsUnbuiltCommand, Says, spelled};
 
 /// What the words of the command line ask for.
 #[derive(Clone, Copy, Debug)]
@@ -17,7 +17,7 @@ pub enum Command<'a> {
 
 /// The command of the words, which are without the program's name.
 pub fn command_of(words: &[String]) -> Command<'_>
-    ensures { Says (map string_bytes words.now) result }
+    ensures { Says (spelled words.now) result }
 {
     if is_solve_of_kind(words, "pure") {
         Command::SolvePure {
@@ -38,14 +38,14 @@ pub fn command_of(words: &[String]) -> Command<'_>
 /// Whether the words are `check GAME CERT`.
 fn is_check(words: &[String]) -> bool
     ensures { IsTrue result ↔ ((game : Bytes) × (cert : Bytes)
-        × IsCheck (map string_bytes words.now) game cert) }
+        × IsCheck (spelled words.now) game cert) }
 {
     words.len() == 3 && is_word(words, 0, "check")
 }
 
 /// Whether the words ask for what isn't built yet.
 fn is_unbuilt(words: &[String]) -> bool
-    ensures { IsTrue result ↔ IsUnbuiltCommand (map string_bytes words.now) }
+    ensures { IsTrue result ↔ IsUnbuiltCommand (spelled words.now) }
 {
     is_solve(words) || is_solve_of_kind(words, "mixed") || is_other_action(words)
 }
@@ -53,7 +53,7 @@ fn is_unbuilt(words: &[String]) -> bool
 /// Whether the words are `solve GAME`.
 fn is_solve(words: &[String]) -> bool
     ensures { IsTrue result ↔ ((name : Bytes)
-        × (map string_bytes words.now ≡ codes "solve" ∷ name ∷ [])) }
+        × (spelled words.now ≡ codes "solve" ∷ name ∷ [])) }
 {
     words.len() == 2 && is_word(words, 0, "solve")
 }
@@ -61,7 +61,7 @@ fn is_solve(words: &[String]) -> bool
 /// Whether the words are `solve GAME --kind`, and then this kind.
 fn is_solve_of_kind(words: &[String], kind: &str) -> bool
     ensures { IsTrue result ↔ ((name : Bytes)
-        × (map string_bytes words.now ≡ codes "solve" ∷ name ∷ codes "--kind" ∷ kind.now ∷ [])) }
+        × (spelled words.now ≡ codes "solve" ∷ name ∷ codes "--kind" ∷ kind.now ∷ [])) }
 {
     words.len() == 4
         && is_word(words, 0, "solve")
@@ -71,14 +71,14 @@ fn is_solve_of_kind(words: &[String], kind: &str) -> bool
 
 /// Whether the first word is an action other than `solve` and `check`.
 fn is_other_action(words: &[String]) -> bool
-    ensures { IsTrue result ↔ IsOtherAction (map string_bytes words.now) }
+    ensures { IsTrue result ↔ IsOtherAction (spelled words.now) }
 {
     is_word(words, 0, "play") || is_word(words, 0, "best") || is_word(words, 0, "gen")
 }
 
 /// Whether this text stands at the place.
 fn is_word(words: &[String], at: usize, text: &str) -> bool
-    ensures { IsTrue result ↔ (slice_get (map string_bytes words.now) at ≡ Some text.now) }
+    ensures { IsTrue result ↔ (slice_get (spelled words.now) at ≡ Some text.now) }
 {
     match words.get(at) {
         Some(word) => word.as_str() == text,

@@ -15,6 +15,7 @@ mod short;
 mod solve;
 #[cfg(test)]
 mod tests;
+mod text;
 
 use crate::refusal::Refusal;
 use crate::run::zero_run;

@@ -5,6 +5,7 @@ ghost use Rattle.zr_io.specs.Written.{Appends, AppendsPrefix};
 ghost use Rattle.zero.specs.Messages.{fault_line, flaw_line, flaw_name};
 ghost use Rattle.zero.specs.Refusals.{line_of, status_of};
 
+use crate::text::Text;
 use zr_io::{Sink, SinkError, put_all};
 use zr_read::GameFault;
 
@@ -47,12 +48,10 @@ impl CertFlaw {
 pub enum Refusal<'a> {
     /// The words are of no action.
     Usage,
-    /// The shelf failed at this name.
-    CannotRead { name: &'a str },
-    /// This name holds more bytes than a game text may have.
-    LongGame { name: &'a str },
-    /// This name holds more bytes than a certificate's text may have.
-    LongCert { name: &'a str },
+    /// The shelf failed at the text under this name.
+    CannotRead { text: Text, name: &'a str },
+    /// This name holds more bytes than the text may have.
+    TooLong { text: Text, name: &'a str },
     /// The game text has this first fault, at this path.
     Faulty { fault: GameFault, path: String },
     /// The certificate's text is refused at this line, the first one that is, counted from 1.
@@ -61,8 +60,10 @@ pub enum Refusal<'a> {
     NoMemory,
     /// The answer couldn't be written.
     WriteFault,
-    /// The words or the game are of a kind that isn't built yet.
+    /// The words ask for what isn't built yet.
     Unbuilt,
+    /// The game is of a kind that isn't built yet.
+    UnbuiltGame,
 }
 
 impl Refusal<'_> {
@@ -73,12 +74,12 @@ impl Refusal<'_> {
         match self {
             Refusal::Usage => 2,
             Refusal::CannotRead { .. } => 3,
-            Refusal::LongGame { .. } | Refusal::LongCert { .. } => 4,
+            Refusal::TooLong { .. } => 4,
             Refusal::Faulty { .. } => 5,
             Refusal::Flawed { .. } => 6,
             Refusal::NoMemory => 11,
             Refusal::WriteFault => 12,
-            Refusal::Unbuilt => 16,
+            Refusal::Unbuilt | Refusal::UnbuiltGame => 16,
         }
     }
 
@@ -95,18 +96,13 @@ impl Refusal<'_> {
     {
         match self {
             Refusal::Usage => put_all(err, b"zero: usage\n"),
-            Refusal::CannotRead { name } => put_named(err, "zero: cannot read ", name, "\n"),
-            Refusal::LongGame { name } => {
-                put_named(err, "zero: ", name, " is longer than 8388608 bytes\n")
-            }
-            Refusal::LongCert { name } => {
-                put_named(err, "zero: ", name, " is longer than 67108864 bytes\n")
-            }
+            Refusal::CannotRead { name, .. } => put_named(err, "zero: cannot read ", name, "\n"),
+            Refusal::TooLong { text, name } => put_named(err, "zero: ", name, text.excess()),
             Refusal::Faulty { fault, path } => put_fault(err, *fault, path.as_str()),
             Refusal::Flawed { line, flaw } => put_flaw(err, *line, *flaw),
             Refusal::NoMemory => put_all(err, b"zero: no memory\n"),
             Refusal::WriteFault => put_all(err, b"zero: write fault\n"),
-            Refusal::Unbuilt => put_all(err, b"zero: not built yet\n"),
+            Refusal::Unbuilt | Refusal::UnbuiltGame => put_all(err, b"zero: not built yet\n"),
         }
     }
 }

@@ -1,16 +1,17 @@
-ghost use Rattle.std.specs.Prelude.{◌≡◌, ◌≢◌, ◌↔◌, ◌≤◌, ◌⊎◌, ℕ, Option, Some, None, OnOk, IfErr, IsErrAnd, map, string_bytes};
+ghost use Rattle.std.specs.Prelude.{◌≡◌, ◌≢◌, ◌↔◌, ◌≤◌, ◌⊎◌, ℕ, OnOk, IfErr, IsErrAnd};
 ghost use Rattle.zr_game.specs.Players.{GameOf};
 ghost use Rattle.zr_io.specs.Contents.{Bytes};
 ghost use Rattle.zr_io.specs.Faults.{Rose};
 ghost use Rattle.zr_io.specs.Written.{Appends, AppendsPrefix};
 ghost use Rattle.zr_read.specs.declared.fault.GameFault.{GameFault};
 ghost use Rattle.zero.specs.declared.refusal.CertFlaw.{CertFlaw};
-ghost use Rattle.zero.specs.Commands.{IsFaultyCommand, IsGameName, IsUnbuiltCommand};
-ghost use Rattle.zero.specs.Answers.{HasBegun, IsAnswer, IsFaultyGame, IsRefusedCert, IsToldCheck, IsUnbuiltGame, IsVerdictOf};
-ghost use Rattle.zero.specs.Reads.{IsDue, IsLong};
-ghost use Rattle.zero.specs.Statuses.{IsLine};
-ghost use Rattle.zero.specs.Causes.{IsCause};
-ghost use Rattle.zero.specs.Refusals.{status_of};
+ghost use Rattle.zero.specs.declared.text.Text.{Text as Kept};
+ghost use Rattle.zero.specs.declared.text.Text.TheVariants.{Game, Cert};
+ghost use Rattle.zero.specs.Commands.{IsFaultyCommand, IsGameName, IsUnbuiltCommand, spelled};
+ghost use Rattle.zero.specs.Answers.{HasBegun, IsAnswer, IsFaultyGame, IsRefusedCert, IsUnbuiltGame};
+ghost use Rattle.zero.specs.Reads.{IsDue, IsLastTake, IsLong, Lacks};
+ghost use Rattle.zero.specs.Refusals.{HasTaken, IsCause, IsLine, Keeps, status_of};
+ghost use Rattle.zero.specs.Told.{IsCheckStatus, IsGameStatus, IsToldCheck, IsToldGame};
 
 use crate::answer::answer_to;
 use crate::refusal::Refusal;
@@ -43,47 +44,60 @@ pub fn zero_run<S: Shelf, O: Sink, E: Sink>(
 ) -> u8
     // What a printed answer means: the whole text of a true answer was written.
     ensures solved { result ≡ 0 → (text : Bytes)
-        × IsAnswer (map string_bytes words.now) (S.contents shelf.old) text
+        × IsAnswer (spelled words.now) (S.contents shelf.old) text
         × Appends (O.written out.old) text (O.written out.new) }
 
-    // Why there is none.
-    ensures usage { (result ≡ 2) ↔ IsFaultyCommand (map string_bytes words.now) }
-    ensures unread { result ≡ 3 → ((name : Bytes)
-        × (IsGameName (map string_bytes words.now) name
-        ⊎ IsDue (map string_bytes words.now) (S.contents shelf.old) name))
+    // Why there is none, and which text was the last to be taken then.
+    ensures usage { (result ≡ 2) ↔ IsFaultyCommand (spelled words.now) }
+    ensures unread { result ≡ 3 → ((text : Kept) × (name : Bytes)
+        × IsDue (spelled words.now) (S.contents shelf.old) text name
+        × IsLastTake text (S.takes_of shelf.old) (S.takes_of shelf.new))
         × Rose (S.faults_of shelf.old) (S.faults_of shelf.new) }
-    ensures lacks { (name : Bytes) (get : Bytes → Option Bytes)
-        → IsGameName (map string_bytes words.now) name
-        → S.contents shelf.old ≡ Some get → get name ≡ None → result ≡ 3 }
-    ensures long { result ≡ 4 → IsLong (map string_bytes words.now) (S.contents shelf.old) }
+    ensures lacks { (name : Bytes) → IsGameName (spelled words.now) name
+        → Lacks (S.contents shelf.old) name → result ≡ 3 }
+    ensures long { result ≡ 4 → (text : Kept) × (name : Bytes)
+        × IsLong (spelled words.now) (S.contents shelf.old) text name
+        × IsLastTake text (S.takes_of shelf.old) (S.takes_of shelf.new) }
     ensures faulty { result ≡ 5 → (fault : GameFault) × (path : Bytes)
-        × IsFaultyGame (map string_bytes words.now) (S.contents shelf.old) fault path }
+        × IsFaultyGame (spelled words.now) (S.contents shelf.old) fault path
+        × IsLastTake Game (S.takes_of shelf.old) (S.takes_of shelf.new) }
     ensures refused { result ≡ 6 → (number : ℕ) × (flaw : CertFlaw)
-        × IsRefusedCert (map string_bytes words.now) (S.contents shelf.old) number flaw }
+        × IsRefusedCert (spelled words.now) (S.contents shelf.old) number flaw
+        × IsLastTake Cert (S.takes_of shelf.old) (S.takes_of shelf.new) }
     ensures unwritten { result ≡ 12 → Rose (O.faults_of out.old) (O.faults_of out.new)
-        × HasBegun (map string_bytes words.now) (S.contents shelf.old)
+        × HasBegun (spelled words.now) (S.contents shelf.old)
         (O.written out.old) (O.written out.new) }
-    ensures unbuilt { result ≡ 16 → IsUnbuiltCommand (map string_bytes words.now)
-        ⊎ IsUnbuiltGame (map string_bytes words.now) (S.contents shelf.old) }
-    ensures unbuilt_command { IsUnbuiltCommand (map string_bytes words.now) → result ≡ 16 }
+    ensures unbuilt { result ≡ 16 → IsUnbuiltCommand (spelled words.now)
+        ⊎ (IsUnbuiltGame (spelled words.now) (S.contents shelf.old)
+        × IsLastTake Game (S.takes_of shelf.old) (S.takes_of shelf.new)) }
+    ensures unbuilt_command { IsUnbuiltCommand (spelled words.now) → result ≡ 16 }
 
-    // A check of contents that are told and within their limits, of which the game's stands for a
-    // game, with no fault of the shelf or of `out`: it ends with 0 exactly where the certificate is
-    // right and no step of its check is too wide, and else with 6, but for want of memory.
-    ensures told { (game : GameOf) (bytes : Bytes)
-        → IsToldCheck (map string_bytes words.now) (S.contents shelf.old) game bytes
+    // A game text that is told, within its limit, with no fault of the shelf or of `out`: its bytes
+    // settle the status, but for want of memory.
+    ensures told_game { (bytes : Bytes)
+        → IsToldGame (spelled words.now) (S.contents shelf.old) bytes
         → (Rose (S.faults_of shelf.old) (S.faults_of shelf.new) → ⊥)
         → (Rose (O.faults_of out.old) (O.faults_of out.new) → ⊥)
-        → IsVerdictOf game bytes result }
+        → IsGameStatus (spelled words.now) bytes result }
+
+    // A check of texts that are told, within their limits, of which the game's stands for a game,
+    // with no fault of the shelf or of `out`: it ends with 0 exactly where the certificate is right
+    // and no step of its check is too wide, and else with 6, but for want of memory.
+    ensures told { (game : GameOf) (bytes : Bytes)
+        → IsToldCheck (spelled words.now) (S.contents shelf.old) game bytes
+        → (Rose (S.faults_of shelf.old) (S.faults_of shelf.new) → ⊥)
+        → (Rose (O.faults_of out.old) (O.faults_of out.new) → ⊥)
+        → IsCheckStatus game bytes result }
 
     // What was written where there is none: no status but 11 and 12 leaves a part of an answer.
     ensures begun { result ≢ 0 → (O.written out.new ≡ O.written out.old)
         ⊎ (((result ≡ 11) ⊎ (result ≡ 12))
-        × HasBegun (map string_bytes words.now) (S.contents shelf.old)
+        × HasBegun (spelled words.now) (S.contents shelf.old)
         (O.written out.old) (O.written out.new)) }
     ensures quiet { result ≡ 0 → E.written err.new ≡ E.written err.old }
     ensures line { result ≢ 0 → (text : Bytes)
-        × IsLine (map string_bytes words.now) (S.contents shelf.old) result text
+        × IsLine (spelled words.now) (S.contents shelf.old)
+        (S.takes_of shelf.old) (S.takes_of shelf.new) result text
         × AppendsPrefix (E.written err.old) text (E.written err.new) }
 
     ensures contents { S.contents shelf.new ≡ S.contents shelf.old }
@@ -108,28 +122,25 @@ fn answer<'w, S: Shelf, O: Sink>(
     out: &mut O,
 ) -> Result<(), Refusal<'w>>
     ensures ok { OnOk result ((text : Bytes)
-        × IsAnswer (map string_bytes words.now) (S.contents shelf.old) text
+        × IsAnswer (spelled words.now) (S.contents shelf.old) text
         × Appends (O.written out.old) text (O.written out.new)) }
-    ensures err { IfErr result (IsCause (map string_bytes words.now) (S.contents shelf.old)) }
+    ensures err { IfErr result (IsCause (spelled words.now) (S.contents shelf.old)) }
 
-    ensures unread { IfErr result (λ refusal. status_of refusal ≡ 3
-        → Rose (S.faults_of shelf.old) (S.faults_of shelf.new)) }
-    ensures lacks { (name : Bytes) (get : Bytes → Option Bytes)
-        → IsGameName (map string_bytes words.now) name
-        → S.contents shelf.old ≡ Some get → get name ≡ None
+    ensures keeps { Keeps S.contents S.faults_of shelf.old shelf.new result }
+    ensures lacks { (name : Bytes) → IsGameName (spelled words.now) name
+        → Lacks (S.contents shelf.old) name
         → IsErrAnd result (λ refusal. status_of refusal ≡ 3) }
+    ensures taken { IfErr result (HasTaken (S.takes_of shelf.old) (S.takes_of shelf.new)) }
+
     ensures unwritten { IfErr result (λ refusal. status_of refusal ≡ 12
         → Rose (O.faults_of out.old) (O.faults_of out.new)
-        × HasBegun (map string_bytes words.now) (S.contents shelf.old)
+        × HasBegun (spelled words.now) (S.contents shelf.old)
         (O.written out.old) (O.written out.new)) }
     ensures begun { IfErr result (λ refusal. (O.written out.new ≡ O.written out.old)
         ⊎ (((status_of refusal ≡ 11) ⊎ (status_of refusal ≡ 12))
-        × HasBegun (map string_bytes words.now) (S.contents shelf.old)
+        × HasBegun (spelled words.now) (S.contents shelf.old)
         (O.written out.old) (O.written out.new))) }
-
-    ensures contents { S.contents shelf.new ≡ S.contents shelf.old }
-    ensures counts { (S.faults_of shelf.old ≤ S.faults_of shelf.new)
-        × (O.faults_of out.old ≤ O.faults_of out.new) }
+    ensures counts { O.faults_of out.old ≤ O.faults_of out.new }
 {
     let text = answer_to(alloc, words, shelf)?;
     match put_all(out, text.as_bytes()) {

@@ -1,16 +1,16 @@
-ghost use Rattle.std.specs.Prelude.{◌≡◌, ◌≢◌, ◌≤◌, Option, Some, None, IfOk, IfErr, IsErrAnd, string_bytes};
+ghost use Rattle.std.specs.Prelude.{◌≡◌, ◌≢◌, IfOk, IfErr, IsErrAnd, string_bytes};
 ghost use Rattle.zr_game.specs.Games.{game_of};
 ghost use Rattle.zr_trial.specs.Reach.{IsWithinReach};
-ghost use Rattle.zr_io.specs.Contents.{Bytes};
-ghost use Rattle.zr_io.specs.Faults.{Rose};
+ghost use Rattle.zr_io.specs.Contents.{Bytes, Contents};
 ghost use Rattle.zero.specs.Commands.{IsSolvePure, Words};
 ghost use Rattle.zero.specs.Answers.{IsAnswer, IsAnswered, IsShortAnswer};
-ghost use Rattle.zero.specs.Causes.{IsCause, IsSolveFlaw};
-ghost use Rattle.zero.specs.Refusals.{status_of};
+ghost use Rattle.zero.specs.Reads.{IsRead, Lacks, game_limit};
+ghost use Rattle.zero.specs.Refusals.{ComesOf, HasTaken, IsCause, Keeps, status_of};
 
-use crate::reading::{Text, content_of, game_in};
+use crate::reading::{content_of, game_in};
 use crate::refusal::Refusal;
 use crate::short::{none_text, profile_text};
+use crate::text::Text;
 use std::alloc::{AllocError, Global};
 use zr_game::Game;
 use zr_io::Shelf;
@@ -27,15 +27,11 @@ pub fn solve<'w, S: Shelf>(
     ensures err { (words : Words) → IsSolvePure words name.now
         → IfErr result (IsCause words (S.contents shelf.old)) }
 
-    ensures unread { IfErr result (λ refusal. status_of refusal ≡ 3
-        → Rose (S.faults_of shelf.old) (S.faults_of shelf.new)) }
-    ensures lacks { (get : Bytes → Option Bytes)
-        → S.contents shelf.old ≡ Some get → get name.now ≡ None
+    ensures keeps { Keeps S.contents S.faults_of shelf.old shelf.new result }
+    ensures lacks { Lacks (S.contents shelf.old) name.now
         → IsErrAnd result (λ refusal. status_of refusal ≡ 3) }
+    ensures taken { IfErr result (HasTaken (S.takes_of shelf.old) (S.takes_of shelf.new)) }
     ensures unwritten { IfErr result (λ refusal. status_of refusal ≢ 12) }
-
-    ensures contents { S.contents shelf.new ≡ S.contents shelf.old }
-    ensures grows { S.faults_of shelf.old ≤ S.faults_of shelf.new }
 {
     let bytes = content_of(shelf, name, Text::Game)?;
     answer_text(alloc, bytes.as_slice())
@@ -44,11 +40,13 @@ pub fn solve<'w, S: Shelf>(
 /// The text that answers the bytes of a game text.
 fn answer_text<'w>(alloc: Global, bytes: &[u8]) -> Result<String, Refusal<'w>>
     ensures ok { IfOk result (λ text. IsAnswered bytes.now (string_bytes text)) }
-    ensures err { IfErr result (IsSolveFlaw bytes.now) }
+    ensures err { (words : Words) (contents : Contents) (name : Bytes) → IsSolvePure words name
+        → IsRead contents game_limit name bytes.now → IfErr result (IsCause words contents) }
+    ensures comes { IfErr result (ComesOf Text.Game) }
 {
     let game = game_in(alloc, bytes)?;
     if !is_within_reach(&game) {
-        return Err(Refusal::Unbuilt);
+        return Err(Refusal::UnbuiltGame);
     }
     match decide(alloc, &game) {
         Ok(text) => Ok(text),

@@ -1,14 +1,15 @@
-use Rattle.std.proofs.Common.{rules, map, string_bytes}
+use Rattle.std.proofs.Common.{rules, string_bytes}
+use Rattle.zero.specs.Commands.{spelled}
 use Rattle.zero.proofs.CauseLemmas.{names_of_answer}
 use Rattle.zero.proofs.run.answer.Goals as goal
 
 pub returns-in_err-text-clause-lacks : goal.returns-in_err-text-clause-lacks
-returns-in_err-text-clause-lacks g c = λ name get named told none.
-    let h = c.in_err-text.ensures.lacks name get named told none in
+returns-in_err-text-clause-lacks g c = λ name named lacks.
+    let h = c.in_err-text.ensures.lacks name named lacks in
     search (rules, h)
 
 pub returns-in-Err-Failed-clause-err : goal.returns-in-Err-Failed-clause-err
-returns-in-Err-Failed-clause-err g c = names_of_answer (map string_bytes c.args.words.now) (g.S.Shelf.contents c.args.shelf.now) (string_bytes c.in_ok-text.text) c.in_ok-text.ensures.ok
+returns-in-Err-Failed-clause-err g c = names_of_answer (spelled c.args.words.now) (g.S.Shelf.contents c.args.shelf.now) (string_bytes c.in_ok-text.text) c.in_ok-text.ensures.ok
 
 pub returns-clause-err : goal.returns-clause-err
-returns-clause-err g c = names_of_answer (map string_bytes c.args.words.now) (g.S.Shelf.contents c.args.shelf.now) (string_bytes c.in_ok-text.text) c.in_ok-text.ensures.ok
+returns-clause-err g c = names_of_answer (spelled c.args.words.now) (g.S.Shelf.contents c.args.shelf.now) (string_bytes c.in_ok-text.text) c.in_ok-text.ensures.ok

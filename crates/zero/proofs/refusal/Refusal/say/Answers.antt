@@ -1,7 +1,8 @@
-use Rattle.std.proofs.Common.{ap, sym, ◌∙◌}
+use Rattle.std.proofs.Common.{◌++◌, codes, ap, sym, ◌∙◌, ⊎_elim}
+use Rattle.zr_io.specs.Contents.{Bytes}
 use Rattle.zero.specs.Messages.{fault_line}
 use Rattle.zero.specs.Refusals.{line_of}
-use Rattle.zero.proofs.WritingLemmas.{ok_same, err_same, long_cert, long_game}
+use Rattle.zero.proofs.WritingLemmas.{ok_same, err_same, long_pieces}
 use Rattle.zero.proofs.refusal.Refusal.say.Goals as goal
 
 pub returns-in-CannotRead-clause-ok : goal.returns-in-CannotRead-clause-ok
@@ -12,21 +13,15 @@ pub returns-in-CannotRead-clause-err : goal.returns-in-CannotRead-clause-err
 returns-in-CannotRead-clause-err g c =
     err_same (g.E.Sink.written c.args.err.now) (g.E.Sink.written c.put_named.new.err) _ _ c.put_named.result (ap line_of (sym c.in-CannotRead.is)) c.put_named.ensures.err
 
-pub returns-in-LongGame-clause-ok : goal.returns-in-LongGame-clause-ok
-returns-in-LongGame-clause-ok g c =
-    ok_same (g.E.Sink.written c.args.err.now) (g.E.Sink.written c.put_named-in-LongGame.new.err) _ _ c.put_named-in-LongGame.result (long_game c.in-LongGame.name.now ∙ ap line_of (sym c.in-LongGame.is)) c.put_named-in-LongGame.ensures.ok
+pub returns-in-TooLong-clause-ok : goal.returns-in-TooLong-clause-ok
+returns-in-TooLong-clause-ok g c =
+    let pieces = ap (λ (end : Bytes). (codes "zero: " ++ c.in-TooLong.name.now) ++ end) c.excess.ensures ∙ long_pieces c.in-TooLong.text c.in-TooLong.name.now in
+    ok_same (g.E.Sink.written c.args.err.now) (g.E.Sink.written c.put_named-in-TooLong.new.err) _ _ c.put_named-in-TooLong.result (pieces ∙ ap line_of (sym c.in-TooLong.is)) c.put_named-in-TooLong.ensures.ok
 
-pub returns-in-LongGame-clause-err : goal.returns-in-LongGame-clause-err
-returns-in-LongGame-clause-err g c =
-    err_same (g.E.Sink.written c.args.err.now) (g.E.Sink.written c.put_named-in-LongGame.new.err) _ _ c.put_named-in-LongGame.result (long_game c.in-LongGame.name.now ∙ ap line_of (sym c.in-LongGame.is)) c.put_named-in-LongGame.ensures.err
-
-pub returns-in-LongCert-clause-ok : goal.returns-in-LongCert-clause-ok
-returns-in-LongCert-clause-ok g c =
-    ok_same (g.E.Sink.written c.args.err.now) (g.E.Sink.written c.put_named-in-LongCert.new.err) _ _ c.put_named-in-LongCert.result (long_cert c.in-LongCert.name.now ∙ ap line_of (sym c.in-LongCert.is)) c.put_named-in-LongCert.ensures.ok
-
-pub returns-in-LongCert-clause-err : goal.returns-in-LongCert-clause-err
-returns-in-LongCert-clause-err g c =
-    err_same (g.E.Sink.written c.args.err.now) (g.E.Sink.written c.put_named-in-LongCert.new.err) _ _ c.put_named-in-LongCert.result (long_cert c.in-LongCert.name.now ∙ ap line_of (sym c.in-LongCert.is)) c.put_named-in-LongCert.ensures.err
+pub returns-in-TooLong-clause-err : goal.returns-in-TooLong-clause-err
+returns-in-TooLong-clause-err g c =
+    let pieces = ap (λ (end : Bytes). (codes "zero: " ++ c.in-TooLong.name.now) ++ end) c.excess.ensures ∙ long_pieces c.in-TooLong.text c.in-TooLong.name.now in
+    err_same (g.E.Sink.written c.args.err.now) (g.E.Sink.written c.put_named-in-TooLong.new.err) _ _ c.put_named-in-TooLong.result (pieces ∙ ap line_of (sym c.in-TooLong.is)) c.put_named-in-TooLong.ensures.err
 
 pub returns-in-Faulty-clause-ok : goal.returns-in-Faulty-clause-ok
 returns-in-Faulty-clause-ok g c =
@@ -54,11 +49,11 @@ returns-in-WriteFault-clause-err g c =
 
 pub returns-in-Unbuilt-clause-ok : goal.returns-in-Unbuilt-clause-ok
 returns-in-Unbuilt-clause-ok g c =
-    ok_same (g.E.Sink.written c.args.err.now) (g.E.Sink.written c.put_all-in-Unbuilt.new.sink) _ _ c.put_all-in-Unbuilt.result (ap line_of (sym c.in-Unbuilt.is)) c.put_all-in-Unbuilt.ensures.ok
+    ok_same (g.E.Sink.written c.args.err.now) (g.E.Sink.written c.put_all-in-Unbuilt.new.sink) _ _ c.put_all-in-Unbuilt.result (⊎_elim (λ h. ap line_of (sym h)) (λ h. ap line_of (sym h)) c.in-Unbuilt.is) c.put_all-in-Unbuilt.ensures.ok
 
 pub returns-in-Unbuilt-clause-err : goal.returns-in-Unbuilt-clause-err
 returns-in-Unbuilt-clause-err g c =
-    err_same (g.E.Sink.written c.args.err.now) (g.E.Sink.written c.put_all-in-Unbuilt.new.sink) _ _ c.put_all-in-Unbuilt.result (ap line_of (sym c.in-Unbuilt.is)) c.put_all-in-Unbuilt.ensures.err
+    err_same (g.E.Sink.written c.args.err.now) (g.E.Sink.written c.put_all-in-Unbuilt.new.sink) _ _ c.put_all-in-Unbuilt.result (⊎_elim (λ h. ap line_of (sym h)) (λ h. ap line_of (sym h)) c.in-Unbuilt.is) c.put_all-in-Unbuilt.ensures.err
 
 pub returns-in-Flawed-clause-ok : goal.returns-in-Flawed-clause-ok
 returns-in-Flawed-clause-ok g c =
