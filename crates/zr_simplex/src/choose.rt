@@ -162,7 +162,7 @@ fn is_lower_ray(lp: &Lp, tableau: &Tableau, row: usize, column: usize, last: usi
     ensures no { result ≡ false → IsRayBelow (program_of lp.now) (basis_of tableau.now) (form_of tableau.now) row column last → ⊥ }
 {
     for at in 0..last {
-        if let Some(i) = row_of(lp, tableau, at) {
+        if let Some(i) = tableau.row_of(at) {
             match compare_rays(tableau, row, column, last, i) {
                 Ordering::Less => return true,
                 Ordering::Greater => return false,
@@ -171,20 +171,6 @@ fn is_lower_ray(lp: &Lp, tableau: &Tableau, row: usize, column: usize, last: usi
         }
     }
     true
-}
-
-/// The row whose column in the basis this is.
-fn row_of(lp: &Lp, tableau: &Tableau, column: usize) -> Option<usize>
-    requires lp { IsLp lp.now }
-    requires kept { IsTableau (program_of lp.now) tableau.now }
-    ensures { MatchOption result ((i : ℕ) → i < length lp.now.rows.items → basis_of tableau.now i ≢ column) (λ i. (i < length lp.now.rows.items) × (basis_of tableau.now i ≡ column)) }
-{
-    for i in 0..lp.rows.len() {
-        if tableau.own(i) == column {
-            return Some(i);
-        }
-    }
-    None
 }
 
 /// The order of what row `at` has at column `last` and at `column`, each over the number of `row`

@@ -1,4 +1,4 @@
-ghost use Rattle.std.specs.Prelude.{◌≡◌, ◌≢◌, ◌<◌, ◌+◌, ◌*◌, ℕ, pos, length, slice_set, IfErr, OnOk, OnErr};
+ghost use Rattle.std.specs.Prelude.{◌≡◌, ◌≢◌, ◌<◌, ◌+◌, ◌*◌, ℕ, pos, length, slice_set, MatchOption, IfErr, OnOk, OnErr};
 ghost use Rattle.std.specs.List.{All};
 ghost use Rattle.zr_base.specs.Steps.{IsNarrow};
 ghost use Rattle.zr_simplex.specs.StuckSteps.{IsWidePivot};
@@ -73,6 +73,17 @@ impl Tableau {
         match place_of(self.columns[column], row, own) {
             Some(place) => self.numbers[row * (own + 1) + place],
             None => 0,
+        }
+    }
+
+    /// The equation whose column this is, if it is in the basis.
+    pub(crate) fn row_of(&self, column: usize) -> Option<usize>
+        requires { column < self.now.width }
+        ensures { MatchOption result ((i : ℕ) → i < length self.now.basis → basis_of self.now i ≢ column) (λ i. (i < length self.now.basis) × (basis_of self.now i ≡ column)) }
+    {
+        match self.columns[column] {
+            Column::Basic(row) => Some(row as usize),
+            Column::Free(_) => None,
         }
     }
 
