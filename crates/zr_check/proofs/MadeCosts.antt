@@ -39,6 +39,10 @@ made_or_wide game mixtures i player value left right p w =
     let err = subst (λ (r : Result (Fraction × (List ℤ × ℤ)) Wide). IsErr r) (ap (cost_steps game player i) means ∙ p.made) w.2 in
     absurd cc
 
+-- a step that gave an equal item
+ok_moved : {A : Type 0} (r : Result A Wide) (a b : A) → a ≡ b → r ≡ Ok a → r ≡ Ok b
+ok_moved r a b e h = h ∙ ap Ok e
+
 -- the slope, and what was made of it
 record CostParts (slopes_made : Result (List Fraction) Wide) (rest_made : Result Fraction Wide) (own : List Fraction) (cost : Fraction) (left : List ℤ) (right : ℤ) : Type 0 where
   pub slopes : List Fraction
@@ -72,8 +76,8 @@ cost_parts slopes_made rest_made own cost left right e =
       is_value = t.1;
       others = r.0;
       is_rest = r.1;
-      is_cost = subst (λ (f : Fraction). add_of t.0 r.0 ≡ Ok f) parts.0 a.1;
-      claim = subst (λ (c : List ℤ × ℤ). claim_steps s.0 t.0 ≡ Ok c) parts.1 u.1;
+      is_cost = ok_moved (add_of t.0 r.0) a.0 cost parts.0 a.1;
+      claim = ok_moved (claim_steps s.0 t.0) u.0 (left, right) parts.1 u.1;
     }
 
 module _ (game : GameOf) (form : IsGame game) (mixtures : List MixtureOf) (len : length mixtures ≡ length game) (forms : All IsMixtureForm mixtures) (totals : All (λ m. m.total ≡ total m.parts) mixtures) (valid : IsProfile game (profile_with mixtures)) (i : ℕ) (player : PlayerOf) (is : IsPlayer game i player) where

@@ -33,8 +33,10 @@ pub fn check_cert(game: &Game, cert: &Cert, room: &mut Room) -> Result<(), CertF
     requires { HasRoom (game_of game.now) (cert_of cert.now) room.old }
     ensures ok { OnOk result (CertPasses (game_of game.now) (cert_of cert.now)) }
     ensures err { IfErr result (CertRefused (game_of game.now) (cert_of cert.now)) }
-    ensures exact { IsOk result ↔ (IsRightCert (game_of game.now) (cert_of cert.now) × (HasWideStep (game_of game.now) (cert_of cert.now) → ⊥)) }
-    ensures sound { OnOk result (IsTrueVerdict (game_of game.now) cert.now.kind (verdict_of cert.now.verdict)) }
+    ensures exact { IsOk result ↔ (IsRightCert (game_of game.now) (cert_of cert.now)
+        × (HasWideStep (game_of game.now) (cert_of cert.now) → ⊥)) }
+    ensures sound { OnOk result (IsTrueVerdict (game_of game.now) cert.now.kind
+        (verdict_of cert.now.verdict)) }
     ensures room { room.new ≡ room.old }
 {
     if cert.players as usize != game.players.len() {
@@ -62,7 +64,8 @@ pub fn check_profile(game: &Game, cert: &Cert, room: &mut Room) -> Result<(), Ce
     requires { HasRoom (game_of game.now) (cert_of cert.now) room.old }
     ensures ok { OnOk result (HeadPasses (game_of game.now) (cert_of cert.now)) }
     ensures err { IfErr result (HeadRefused (game_of game.now) (cert_of cert.now)) }
-    ensures exact { IsOk result ↔ ((cert.now.players ≡ length (game_of game.now)) × IsRightHead (game_of game.now) cert.now.kind (verdict_of cert.now.verdict)
+    ensures exact { IsOk result ↔ ((cert.now.players ≡ length (game_of game.now))
+        × IsRightHead (game_of game.now) cert.now.kind (verdict_of cert.now.verdict)
         × (HeadIsWide (game_of game.now) (verdict_of cert.now.verdict) → ⊥)) }
     ensures room { room.new ≡ room.old }
 {
@@ -86,13 +89,17 @@ fn check_equilibrium(
     means: &mut [Frac],
     bench: &mut Bench,
 ) -> Result<(), CertFault>
-    requires form { IsVerdictForm (length (game_of game.now)) (ProfileVerdict (map mixture_of strategies.now) (map bound_of bounds.now)) }
-    requires lines { 4 + verdict_lines (ProfileVerdict (map mixture_of strategies.now) (map bound_of bounds.now)) < 2 ^ 32 }
+    requires form { IsVerdictForm (length (game_of game.now)) (ProfileVerdict
+        (map mixture_of strategies.now) (map bound_of bounds.now)) }
+    requires lines { 4 + verdict_lines (ProfileVerdict (map mixture_of strategies.now)
+        (map bound_of bounds.now)) < 2 ^ 32 }
     requires means { var_total (game_of game.now) ≤ length means.old }
     requires places { HasBench (game_of game.now) bench.old }
     requires trees { All (λ b. length b.tree ≤ bench.old.scratch.nodes) (map bound_of bounds.now) }
-    ensures ok { OnOk result (VerdictPasses (game_of game.now) kind (ProfileVerdict (map mixture_of strategies.now) (map bound_of bounds.now))) }
-    ensures err { IfErr result (VerdictRefused (game_of game.now) kind (ProfileVerdict (map mixture_of strategies.now) (map bound_of bounds.now))) }
+    ensures ok { OnOk result (VerdictPasses (game_of game.now) kind (ProfileVerdict
+        (map mixture_of strategies.now) (map bound_of bounds.now))) }
+    ensures err { IfErr result (VerdictRefused (game_of game.now) kind (ProfileVerdict
+        (map mixture_of strategies.now) (map bound_of bounds.now))) }
     ensures places { IsSameBench bench.old bench.new }
 {
     let count = place(game, game.players.len());
@@ -112,8 +119,10 @@ fn check_head(
     requires forms { All IsMixtureForm (map mixture_of strategies.now) }
     requires lines { 4 + sum_lines mixture_lines (map mixture_of strategies.now) < 2 ^ 32 }
     requires means { var_total (game_of game.now) ≤ length means.old }
-    ensures ok { OnOk result (StrategiesPass (game_of game.now) kind (map mixture_of strategies.now)) }
-    ensures err { IfErr result (StrategiesRefused (game_of game.now) kind (map mixture_of strategies.now)) }
+    ensures ok { OnOk result (StrategiesPass (game_of game.now) kind
+        (map mixture_of strategies.now)) }
+    ensures err { IfErr result (StrategiesRefused (game_of game.now) kind
+        (map mixture_of strategies.now)) }
 {
     let count = place(game, game.players.len());
     check_strategies(game, kind, strategies, &mut means[..count])?;
@@ -125,8 +134,11 @@ fn check_empty(game: &Game, i: u32, tree: &Tree, bench: &mut Bench) -> Result<()
     requires lines { 4 + length (nodes_of tree.now) < 2 ^ 32 }
     requires places { HasBench (game_of game.now) bench.old }
     requires nodes { length (nodes_of tree.now) ≤ bench.old.scratch.nodes }
-    ensures ok { (kind : Kind) → OnOk result (VerdictPasses (game_of game.now) kind (EmptyVerdict i (nodes_of tree.now))) }
-    ensures err { (kind : Kind) → IfErr result (VerdictRefused (game_of game.now) kind (EmptyVerdict i (nodes_of tree.now))) }
+    ensures ok { (kind : Kind)
+        → OnOk result (VerdictPasses (game_of game.now) kind (EmptyVerdict i (nodes_of tree.now))) }
+    ensures err { (kind : Kind)
+        → IfErr result (VerdictRefused (game_of game.now) kind (EmptyVerdict i
+        (nodes_of tree.now))) }
     ensures places { IsSameBench bench.old bench.new }
 {
     if i as usize >= game.players.len() {

@@ -34,7 +34,8 @@ pub(crate) fn check_bounds(
     requires trees { All (λ b. length b.tree ≤ bench.old.scratch.nodes) (map bound_of list.now) }
     ensures ok { (mixtures : List MixtureOf) → all_means (game_of game.now) mixtures ≡ Ok means.now
         → OnOk result (BoundsPass (game_of game.now) mixtures (map bound_of list.now)) }
-    ensures err { (mixtures : List MixtureOf) → all_means (game_of game.now) mixtures ≡ Ok means.now → line ≡ 4 + sum_lines mixture_lines mixtures
+    ensures err { (mixtures : List MixtureOf) → all_means (game_of game.now) mixtures ≡ Ok means.now
+        → line ≡ 4 + sum_lines mixture_lines mixtures
         → IfErr result (BoundsRefused (game_of game.now) mixtures (map bound_of list.now)) }
     ensures places { IsSameBench bench.old bench.new }
 {
@@ -61,10 +62,13 @@ fn check_bound(
     requires means { length means.now ≡ var_total (game_of game.now) }
     requires places { HasBench (game_of game.now) bench.old }
     requires nodes { length (bound_of bound.now).tree ≤ bench.old.scratch.nodes }
-    ensures ok { (player : PlayerOf) → IsPlayer (game_of game.now) i player → (mixtures : List MixtureOf) → all_means (game_of game.now) mixtures ≡ Ok means.now
+    ensures ok { (player : PlayerOf) → IsPlayer (game_of game.now) i player
+        → (mixtures : List MixtureOf) → all_means (game_of game.now) mixtures ≡ Ok means.now
         → OnOk result (BoundPasses (game_of game.now) mixtures i player (bound_of bound.now)) }
-    ensures err { (player : PlayerOf) → IsPlayer (game_of game.now) i player → (mixtures : List MixtureOf) → all_means (game_of game.now) mixtures ≡ Ok means.now
-        → IfErr result (BoundRefused (game_of game.now) mixtures line i player (bound_of bound.now)) }
+    ensures err { (player : PlayerOf) → IsPlayer (game_of game.now) i player
+        → (mixtures : List MixtureOf) → all_means (game_of game.now) mixtures ≡ Ok means.now
+        → IfErr result (BoundRefused (game_of game.now) mixtures line i player
+        (bound_of bound.now)) }
     ensures places { IsSameBench bench.old bench.new }
 {
     let Ok(made) = make_claim(game, i, means, &mut bench.slopes, &mut bench.left) else {
@@ -105,7 +109,9 @@ fn make_claim(
     requires means { length means.now ≡ var_total (game_of game.now) }
     requires slopes { most_vars (game_of game.now) ≤ length slopes.old }
     requires left { most_vars (game_of game.now) ≤ length left.old }
-    ensures { (player : PlayerOf) → IsPlayer (game_of game.now) i player → GivesCost (cost_steps (game_of game.now) player i means.now) result (take (length player.vars) left.new) }
+    ensures { (player : PlayerOf) → IsPlayer (game_of game.now) i player
+        → GivesCost (cost_steps (game_of game.now) player i means.now) result (take
+        (length player.vars) left.new) }
 {
     let vars = var_count(game, i);
     write_claim(game, i, means, &mut slopes[..vars], &mut left[..vars])
@@ -120,9 +126,12 @@ fn write_claim(
 ) -> Result<(Frac, i128), Wide>
     requires number { i < length (game_of game.now) }
     requires means { length means.now ≡ var_total (game_of game.now) }
-    requires slopes { (player : PlayerOf) → IsPlayer (game_of game.now) i player → length slopes.old ≡ length player.vars }
-    requires left { (player : PlayerOf) → IsPlayer (game_of game.now) i player → length left.old ≡ length player.vars }
-    ensures { (player : PlayerOf) → IsPlayer (game_of game.now) i player → GivesCost (cost_steps (game_of game.now) player i means.now) result left.new }
+    requires slopes { (player : PlayerOf) → IsPlayer (game_of game.now) i player
+        → length slopes.old ≡ length player.vars }
+    requires left { (player : PlayerOf) → IsPlayer (game_of game.now) i player
+        → length left.old ≡ length player.vars }
+    ensures { (player : PlayerOf) → IsPlayer (game_of game.now) i player
+        → GivesCost (cost_steps (game_of game.now) player i means.now) result left.new }
 {
     slope(game, i, means, slopes)?;
     let value = value(slopes, own_means(game, i, means))?;
@@ -135,8 +144,10 @@ fn write_claim(
 fn own_means<'a>(game: &Game, i: u32, means: &'a [Frac]) -> &'a [Frac]
     requires number { i < length (game_of game.now) }
     requires means { length means.now ≡ var_total (game_of game.now) }
-    ensures list { (player : PlayerOf) → IsPlayer (game_of game.now) i player → result.now ≡ means_of_player (game_of game.now) player i means.now }
-    ensures len { (player : PlayerOf) → IsPlayer (game_of game.now) i player → length result.now ≡ length player.vars }
+    ensures list { (player : PlayerOf) → IsPlayer (game_of game.now) i player
+        → result.now ≡ means_of_player (game_of game.now) player i means.now }
+    ensures len { (player : PlayerOf) → IsPlayer (game_of game.now) i player
+        → length result.now ≡ length player.vars }
 {
     let from = place(game, i as usize);
     &means[from..from + var_count(game, i)]
@@ -154,14 +165,17 @@ pub(crate) fn check_tree(
     scratch: &mut Scratch,
 ) -> Result<(), CertFault>
     requires number { i < length (game_of game.now) }
-    requires left { (player : PlayerOf) → IsPlayer (game_of game.now) i player → length left.now ≡ length player.vars }
+    requires left { (player : PlayerOf) → IsPlayer (game_of game.now) i player
+        → length left.now ≡ length player.vars }
     requires lines { line + length (nodes_of tree.now) ≤ 2 ^ 32 }
     requires nodes { length (nodes_of tree.now) ≤ scratch.old.nodes }
     requires columns { most_vars (game_of game.now) ≤ scratch.old.columns }
     requires vars { most_vars (game_of game.now) ≤ scratch.old.vars }
     requires pairs { most_pairs (game_of game.now) ≤ scratch.old.pairs }
-    ensures ok { (player : PlayerOf) → IsPlayer (game_of game.now) i player → OnOk result (TreePasses player (bound_with left.now right) (nodes_of tree.now)) }
-    ensures err { (player : PlayerOf) → IsPlayer (game_of game.now) i player → IfErr result (TreeRefused player (bound_with left.now right) (nodes_of tree.now) line) }
+    ensures ok { (player : PlayerOf) → IsPlayer (game_of game.now) i player
+        → OnOk result (TreePasses player (bound_with left.now right) (nodes_of tree.now)) }
+    ensures err { (player : PlayerOf) → IsPlayer (game_of game.now) i player
+        → IfErr result (TreeRefused player (bound_with left.now right) (nodes_of tree.now) line) }
     ensures places { scratch.new ≡ scratch.old }
 {
     match bounds(game, i, tree, left, right, scratch) {

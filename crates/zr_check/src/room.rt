@@ -84,7 +84,8 @@ pub(crate) fn place(game: &Game, k: usize) -> usize
 /// How many variables player `i` has.
 pub(crate) fn var_count(game: &Game, i: u32) -> usize
     requires { i < length (game_of game.now) }
-    ensures { (player : PlayerOf) → IsPlayer (game_of game.now) i player → result ≡ length player.vars }
+    ensures { (player : PlayerOf) → IsPlayer (game_of game.now) i player
+        → result ≡ length player.vars }
 {
     game.players[i as usize].vars.len()
 }

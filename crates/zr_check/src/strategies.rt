@@ -32,10 +32,14 @@ pub(crate) fn check_strategies(
     requires forms { All IsMixtureForm (map mixture_of strategies.now) }
     requires lines { 4 + sum_lines mixture_lines (map mixture_of strategies.now) < 2 ^ 32 }
     requires places { length means.old ≡ var_total (game_of game.now) }
-    ensures ok { OnOk result (StrategiesPass (game_of game.now) kind (map mixture_of strategies.now)) }
-    ensures means { OnOk result (all_means (game_of game.now) (map mixture_of strategies.now) ≡ Ok means.new) }
-    ensures line { IfOk result (λ line. line ≡ 4 + sum_lines mixture_lines (map mixture_of strategies.now)) }
-    ensures err { IfErr result (StrategiesRefused (game_of game.now) kind (map mixture_of strategies.now)) }
+    ensures ok { OnOk result (StrategiesPass (game_of game.now) kind
+        (map mixture_of strategies.now)) }
+    ensures means { OnOk result (all_means (game_of game.now)
+        (map mixture_of strategies.now) ≡ Ok means.new) }
+    ensures line { IfOk result (λ line. line ≡ 4 + sum_lines mixture_lines
+        (map mixture_of strategies.now)) }
+    ensures err { IfErr result (StrategiesRefused (game_of game.now) kind
+        (map mixture_of strategies.now)) }
 {
     let mut line = 4;
     for i in 0..strategies.len() {
@@ -60,10 +64,14 @@ fn check_strategy(
     requires number { i < length (game_of game.now) }
     requires form { IsMixtureForm (mixture_of strategy.now) }
     requires lines { line + mixture_lines (mixture_of strategy.now) < 2 ^ 32 }
-    requires places { (player : PlayerOf) → IsPlayer (game_of game.now) i player → length means.old ≡ length player.vars }
-    ensures ok { (player : PlayerOf) → IsPlayer (game_of game.now) i player → OnOk result (MixturePasses kind player (mixture_of strategy.now)) }
-    ensures means { (player : PlayerOf) → IsPlayer (game_of game.now) i player → OnOk result (mean_list player (mixture_of strategy.now) ≡ Ok means.new) }
-    ensures err { (player : PlayerOf) → IsPlayer (game_of game.now) i player → IfErr result (MixtureRefused kind player (mixture_of strategy.now) line) }
+    requires places { (player : PlayerOf) → IsPlayer (game_of game.now) i player
+        → length means.old ≡ length player.vars }
+    ensures ok { (player : PlayerOf) → IsPlayer (game_of game.now) i player
+        → OnOk result (MixturePasses kind player (mixture_of strategy.now)) }
+    ensures means { (player : PlayerOf) → IsPlayer (game_of game.now) i player
+        → OnOk result (mean_list player (mixture_of strategy.now) ≡ Ok means.new) }
+    ensures err { (player : PlayerOf) → IsPlayer (game_of game.now) i player
+        → IfErr result (MixtureRefused kind player (mixture_of strategy.now) line) }
 {
     let mut sum = 0;
     for k in 0..strategy.parts.len() {
@@ -96,12 +104,19 @@ fn sums_of_part(
     requires part { k < length (parts_of strategy.now) }
     requires form { IsMixtureForm (mixture_of strategy.now) }
     requires sum { weights_before (parts_of strategy.now) k ≡ Ok sum }
-    requires lengths { (j : ℕ) (part : PartOf) → j ≤ k → slice_get (parts_of strategy.now) j ≡ Some part → length part.point.num ≡ length means.old }
-    requires places { (player : PlayerOf) → IsPlayer (game_of game.now) i player → length means.old ≡ length player.vars }
-    ensures ok { (player : PlayerOf) → IsPlayer (game_of game.now) i player → (part : PartOf) → slice_get (parts_of strategy.now) k ≡ Some part
+    requires lengths { (j : ℕ) (part : PartOf) → j ≤ k
+        → slice_get (parts_of strategy.now) j ≡ Some part
+        → length part.point.num ≡ length means.old }
+    requires places { (player : PlayerOf) → IsPlayer (game_of game.now) i player
+        → length means.old ≡ length player.vars }
+    ensures ok { (player : PlayerOf) → IsPlayer (game_of game.now) i player → (part : PartOf)
+        → slice_get (parts_of strategy.now) k ≡ Some part
         → IfOk result (λ made. IsPartMade player (mixture_of strategy.now) k part made.0 made.1) }
-    ensures means { (player : PlayerOf) → IsPlayer (game_of game.now) i player → OnOk result (IsLastPart (mixture_of strategy.now) k → mean_list player (mixture_of strategy.now) ≡ Ok means.new) }
-    ensures wide { (player : PlayerOf) → IsPlayer (game_of game.now) i player → (part : PartOf) → slice_get (parts_of strategy.now) k ≡ Some part
+    ensures means { (player : PlayerOf) → IsPlayer (game_of game.now) i player
+        → OnOk result (IsLastPart (mixture_of strategy.now) k
+        → mean_list player (mixture_of strategy.now) ≡ Ok means.new) }
+    ensures wide { (player : PlayerOf) → IsPlayer (game_of game.now) i player → (part : PartOf)
+        → slice_get (parts_of strategy.now) k ≡ Some part
         → IfErr result (λ _. IsWidePart player (mixture_of strategy.now) k part) }
 {
     let part = &strategy.parts[k];
@@ -137,7 +152,8 @@ fn is_alone(kind: Kind, k: usize) -> bool
 fn is_whole(strategy: &Strategy, k: usize, weights: i128) -> bool
     requires part { k < length (parts_of strategy.now) }
     requires weights { weight_steps (parts_of strategy.now) k ≡ Ok weights }
-    ensures { IsTrue result ↔ (IsLastPart (mixture_of strategy.now) k → strategy.now.total ≡ total (parts_of strategy.now)) }
+    ensures { IsTrue result ↔ (IsLastPart (mixture_of strategy.now) k
+        → strategy.now.total ≡ total (parts_of strategy.now)) }
 {
     k + 1 < strategy.parts.len() || is_total(strategy, weights)
 }

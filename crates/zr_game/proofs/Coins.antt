@@ -38,7 +38,8 @@ b = penny_player (pos 2) b_term
 abbrev coin : VarOf
 coin = record { name = []; whole = true; low = Some (pos 0); up = Some (pos 1) }
 
-one_of : (P : ℕ → PlayerOf → Type 0) → P 0 a → P 1 b → (i : ℕ) (player : PlayerOf) → IsPlayer pennies i player → P i player
+one_of : (P : ℕ → PlayerOf → Type 0) → P 0 a → P 1 b → (i : ℕ) (player : PlayerOf)
+    → IsPlayer pennies i player → P i player
 one_of P first second zero player e = let s : a ≡ player = cc in subst (P 0) s first
 one_of P first second (suc zero) player e = let s : b ≡ player = cc in subst (P 1) s second
 one_of P first second (suc (suc i)) player e = absurd cc
@@ -48,11 +49,16 @@ one_var zero found e = (refl, cc)
 one_var (suc v) found e = absurd cc
 
 module _ (number : ℤ) (term : CrossTerm) where
-  penny_feasible : (z : ℤ) → (pos 0) ≤ℤ z → z ≤ℤ (pos 1) → IsFeasible (penny_player number term) (penny z)
+  penny_feasible : (z : ℤ) → (pos 0) ≤ℤ z → z ≤ℤ (pos 1)
+      → IsFeasible (penny_player number term) (penny z)
   penny_feasible z low high = record {
     point = omega (arith, ints);
     len = refl;
-    bounds = λ v found e. let o = one_var v found e in subst (λ w. IsWithin w (num_of (penny z) v) (pos 1)) (sym o.1) (subst (λ k. IsWithin coin (num_of (penny z) k) (pos 1)) (sym o.0) (record { low = omega (arith, ints, low); high = omega (arith, ints, high); whole = λ h. (z, omega (arith, ints)) }));
+    bounds = λ v found e. let o = one_var v found e in
+        subst (λ w. IsWithin w (num_of (penny z) v) (pos 1)) (sym o.1)
+        (subst (λ k. IsWithin coin (num_of (penny z) k) (pos 1)) (sym o.0)
+        (record { low = omega (arith, ints, low); high = omega (arith, ints, high);
+        whole = λ h. (z, omega (arith, ints)) }));
     rows = All-nil (RowHolds (penny z));
     pairs = All-nil (PairHolds (penny z));
   }
@@ -65,11 +71,17 @@ module _ (number : ℤ) (term : CrossTerm) where
       let F = λ (part : Part). IsFeasible (penny_player number term) part.point in
       record {
         some = omega arith;
-        weights = All-cons W zero_point (one_point ∷ []) (omega (arith, ints)) (All-cons W one_point [] (omega (arith, ints)) (All-nil W));
-        points = All-cons F zero_point (one_point ∷ []) (penny_feasible (pos 0) (omega (arith, ints)) (omega (arith, ints))) (All-cons F one_point [] (penny_feasible (pos 1) (omega (arith, ints)) (omega (arith, ints))) (All-nil F));
+        weights = All-cons W zero_point (one_point ∷ []) (omega (arith, ints))
+            (All-cons W one_point [] (omega (arith, ints)) (All-nil W));
+        points = All-cons F zero_point (one_point ∷ [])
+            (penny_feasible (pos 0) (omega (arith, ints)) (omega (arith, ints)))
+            (All-cons F one_point []
+            (penny_feasible (pos 1) (omega (arith, ints)) (omega (arith, ints))) (All-nil F));
       }
 
-  penny_form : (i : ℕ) → term.own ≡ 0 → term.player < 2 → term.player ≢ i → HasVar pennies term.player term.var → IsCoefficient number → IsCoefficient term.coef → IsPlayerForm pennies i (penny_player number term)
+  penny_form : (i : ℕ) → term.own ≡ 0 → term.player < 2 → term.player ≢ i
+      → HasVar pennies term.player term.var → IsCoefficient number → IsCoefficient term.coef
+      → IsPlayerForm pennies i (penny_player number term)
   penny_form i own there apart has number_form coef_form = record {
     some_var = omega arith;
     var_count = omega arith;
@@ -82,7 +94,9 @@ module _ (number : ℤ) (term : CrossTerm) where
     pairs = All-nil (IsPairForm 1);
     from_zero = All-nil (λ (pair : PairOf). IsFromZero (coin ∷ []) pair.var);
     cost = (omega arith, omega arith, number_form, tt);
-    cross = All-cons (IsCrossForm pennies i 1) term [] (record { own = omega arith; player = there; other = apart; var = has; coef = coef_form }) (All-nil (IsCrossForm pennies i 1));
+    cross = All-cons (IsCrossForm pennies i 1) term []
+        (record { own = omega arith; player = there; other = apart; var = has; coef = coef_form })
+        (All-nil (IsCrossForm pennies i 1));
     cross_ascends = λ k j d below within. absurd (omega arith);
     others = All-nil (IsOtherForm pennies i);
     others_ascend = λ k j d below within. absurd (omega arith);
@@ -92,7 +106,8 @@ module _ (number : ℤ) (term : CrossTerm) where
       coin_form = record {
         low = λ z e. let s : pos 0 ≡ z = cc in rw (← s) (omega (arith, ints), omega (arith, ints));
         up = λ z e. let s : pos 1 ≡ z = cc in rw (← s) (omega (arith, ints), omega (arith, ints));
-        ordered = λ l e u f. let s : pos 0 ≡ l = cc in let t : pos 1 ≡ u = cc in rw (← s, ← t) (omega (arith, ints));
+        ordered = λ l e u f. let s : pos 0 ≡ l = cc in let t : pos 1 ≡ u = cc in
+            rw (← s, ← t) (omega (arith, ints));
       }
 
 has_first : (k : ℕ) → HasVar pennies k 0
@@ -102,7 +117,10 @@ form : IsGame pennies
 form = record {
   some_player = omega arith;
   player_count = omega arith;
-  players = one_of (IsPlayerForm pennies) (penny_form (negsuc 1) a_term 0 refl (omega arith) (λ e. absurd (omega arith)) (has_first 1) coef_a coef_at_a) (penny_form (pos 2) b_term 1 refl (omega arith) (λ e. absurd (omega arith)) (has_first 0) coef_b coef_at_b);
+  players = one_of (IsPlayerForm pennies) (penny_form (negsuc 1) a_term 0 refl (omega arith)
+      (λ e. absurd (omega arith)) (has_first 1) coef_a coef_at_a)
+      (penny_form (pos 2) b_term 1 refl (omega arith) (λ e. absurd (omega arith)) (has_first 0)
+      coef_b coef_at_b);
 }
   where
     coef_a : IsCoefficient (negsuc 1)
@@ -123,7 +141,8 @@ halves = half_half ∷ half_half ∷ []
 valid : IsProfile pennies halves
 valid = record {
   len = refl;
-  strategies = one_of (λ i player. IsStrategy player (strategy_of halves i)) (half_valid (negsuc 1) a_term) (half_valid (pos 2) b_term);
+  strategies = one_of (λ i player. IsStrategy player (strategy_of halves i))
+      (half_valid (negsuc 1) a_term) (half_valid (pos 2) b_term);
 }
 
 flat : (s n q : ℤ) → s ≡ pos 0 → pos 0 *ℤ q +ℤ (s *ℤ n) *ℤ pos 1 ≡ pos 0
@@ -140,18 +159,27 @@ b_flat f = flat (slope b halves 0).num (f 0).num ((slope b halves 0).den *ℤ (f
 
 best : IsBestAlongSlope pennies halves
 best =
-    one_of (λ i player. (x : PointOf) → IsFeasible player x → IsAtMost (along_slope player halves (mean (strategy_of halves i))) (along_slope player halves (value_of x))) (λ x f. level (along_slope a halves (mean half_half)) (along_slope a halves (value_of x)) (a_flat (mean half_half)) (a_flat (value_of x))) (λ x f. level (along_slope b halves (mean half_half)) (along_slope b halves (value_of x)) (b_flat (mean half_half)) (b_flat (value_of x)))
+    one_of (λ i player. (x : PointOf) → IsFeasible player x
+        → IsAtMost (along_slope player halves (mean (strategy_of halves i)))
+        (along_slope player halves (value_of x)))
+        (λ x f. level (along_slope a halves (mean half_half)) (along_slope a halves (value_of x))
+        (a_flat (mean half_half)) (a_flat (value_of x)))
+        (λ x f. level (along_slope b halves (mean half_half)) (along_slope b halves (value_of x))
+        (b_flat (mean half_half)) (b_flat (value_of x)))
 
 pub pennies_stable : IsEquilibrium pennies halves
 pennies_stable = (equilibria pennies form halves valid).1 best
 
 -- a feasible point of a penny is that of 0 or of 1
-module _ (number : ℤ) (term : CrossTerm) (x : PointOf) (feasible : IsFeasible (penny_player number term) x) where
+module _ (number : ℤ) (term : CrossTerm) (x : PointOf)
+    (feasible : IsFeasible (penny_player number term) x) where
   coin_value : IsWholeValue (num_of x 0) x.den (pos 0) (pos 1)
-  coin_value = whole_value (penny_player number term) x feasible 0 coin refl refl (pos 0) (pos 1) refl refl
+  coin_value = whole_value (penny_player number term) x feasible 0 coin refl refl (pos 0) (pos 1)
+      refl refl
 
   is_penny : (k : ℤ) → num_of x 0 ≡ k *ℤ x.den → IsSamePoint x (penny k)
-  is_penny k e = record { left = feasible.point; right = omega (arith, ints); len = feasible.len; values = each }
+  is_penny k e = record { left = feasible.point; right = omega (arith, ints); len = feasible.len;
+      values = each }
     where
       each : (v : ℕ) → HaveSameCross (value_of x v) (value_of (penny k) v)
       each zero = let one : num_of x 0 *ℤ pos 1 ≡ num_of x 0 = omega (arith, ints) in one ∙ e
@@ -163,7 +191,9 @@ module _ (number : ℤ) (term : CrossTerm) (x : PointOf) (feasible : IsFeasible 
           only_one (y ∷ z ∷ xs) len v = absurd (omega arith)
 
   either : IsSamePoint x (penny (pos 0)) ⊎ IsSamePoint x (penny (pos 1))
-  either = ⊎_elim (λ (e : coin_value.k ≡ pos 0). inl (is_penny (pos 0) (rw e at coin_value.is))) (λ (e : coin_value.k ≡ pos 1). inr (is_penny (pos 1) (rw e at coin_value.is))) (bit coin_value.k coin_value.low coin_value.high)
+  either = ⊎_elim (λ (e : coin_value.k ≡ pos 0). inl (is_penny (pos 0) (rw e at coin_value.is)))
+      (λ (e : coin_value.k ≡ pos 1). inr (is_penny (pos 1) (rw e at coin_value.is)))
+      (bit coin_value.k coin_value.low coin_value.high)
     where
       bit : (k : ℤ) → (pos 0) ≤ℤ k → k ≤ℤ (pos 1) → (k ≡ pos 0) ⊎ (k ≡ pos 1)
       bit (pos zero) low high = inl refl
@@ -171,7 +201,8 @@ module _ (number : ℤ) (term : CrossTerm) (x : PointOf) (feasible : IsFeasible 
       bit (pos (suc (suc n))) low high = absurd (omega (arith, ints, high))
       bit (negsuc n) low high = absurd (omega (arith, ints, low))
 
-two_same : (x y p q : PointOf) → IsSamePoint x p → IsSamePoint y q → AreSame (x ∷ y ∷ []) (p ∷ q ∷ [])
+two_same : (x y p q : PointOf) → IsSamePoint x p → IsSamePoint y q
+    → AreSame (x ∷ y ∷ []) (p ∷ q ∷ [])
 two_same x y p q first second = record { dens = dens; other_dens = other_dens; values = values }
   where
     dens : (k : ℕ) → (pos 0) <ℤ (point_of (x ∷ y ∷ []) k).den
@@ -184,48 +215,69 @@ two_same x y p q first second = record { dens = dens; other_dens = other_dens; v
     other_dens (suc zero) = second.right
     other_dens (suc (suc k)) = omega (arith, ints)
 
-    values : (k v : ℕ) → HaveSameCross (value_of (point_of (x ∷ y ∷ []) k) v) (value_of (point_of (p ∷ q ∷ []) k) v)
+    values : (k v : ℕ)
+        → HaveSameCross (value_of (point_of (x ∷ y ∷ []) k) v)
+        (value_of (point_of (p ∷ q ∷ []) k) v)
     values zero v = first.values v
     values (suc zero) v = second.values v
     values (suc (suc k)) v = refl
 
-module _ (x y : PointOf) (x_feasible : IsFeasible a x) (y_feasible : IsFeasible b y) (stable : IsStableAt pennies (x ∷ y ∷ [])) where
-  a_stays : (k l z : ℤ) → IsSamePoint x (penny k) → IsSamePoint y (penny l) → (pos 0) ≤ℤ z → z ≤ℤ (pos 1) → IsAtMost (cost_of a 0 (penny k ∷ penny l ∷ [])) (cost_of a 0 (penny z ∷ penny l ∷ []))
+module _ (x y : PointOf) (x_feasible : IsFeasible a x) (y_feasible : IsFeasible b y)
+    (stable : IsStableAt pennies (x ∷ y ∷ [])) where
+  a_stays : (k l z : ℤ) → IsSamePoint x (penny k) → IsSamePoint y (penny l) → (pos 0) ≤ℤ z
+      → z ≤ℤ (pos 1)
+      → IsAtMost (cost_of a 0 (penny k ∷ penny l ∷ [])) (cost_of a 0 (penny z ∷ penny l ∷ []))
   a_stays k l z first second low high =
       let other = same_point_refl (penny z) (omega (arith, ints)) in
       let before = two_same x y (penny k) (penny l) first second in
       let after = two_same (penny z) y (penny z) (penny l) other second in
       let stays = stable 0 a refl (penny z) (penny_feasible (negsuc 1) a_term z low high) in
-      costs_ordered a 0 (x ∷ y ∷ []) (penny z ∷ y ∷ []) (penny k ∷ penny l ∷ []) (penny z ∷ penny l ∷ []) before after stays
+      costs_ordered a 0 (x ∷ y ∷ []) (penny z ∷ y ∷ []) (penny k ∷ penny l ∷ [])
+          (penny z ∷ penny l ∷ []) before after stays
 
-  b_stays : (k l z : ℤ) → IsSamePoint x (penny k) → IsSamePoint y (penny l) → (pos 0) ≤ℤ z → z ≤ℤ (pos 1) → IsAtMost (cost_of b 1 (penny k ∷ penny l ∷ [])) (cost_of b 1 (penny k ∷ penny z ∷ []))
+  b_stays : (k l z : ℤ) → IsSamePoint x (penny k) → IsSamePoint y (penny l) → (pos 0) ≤ℤ z
+      → z ≤ℤ (pos 1)
+      → IsAtMost (cost_of b 1 (penny k ∷ penny l ∷ [])) (cost_of b 1 (penny k ∷ penny z ∷ []))
   b_stays k l z first second low high =
       let other = same_point_refl (penny z) (omega (arith, ints)) in
       let before = two_same x y (penny k) (penny l) first second in
       let after = two_same x (penny z) (penny k) (penny z) first other in
       let stays = stable 1 b refl (penny z) (penny_feasible (pos 2) b_term z low high) in
-      costs_ordered b 1 (x ∷ y ∷ []) (x ∷ penny z ∷ []) (penny k ∷ penny l ∷ []) (penny k ∷ penny z ∷ []) before after stays
+      costs_ordered b 1 (x ∷ y ∷ []) (x ∷ penny z ∷ []) (penny k ∷ penny l ∷ [])
+          (penny k ∷ penny z ∷ []) before after stays
 
   zero_zero : IsSamePoint x (penny (pos 0)) → IsSamePoint y (penny (pos 0)) → ⊥
-  zero_zero p q = let h = a_stays (pos 0) (pos 0) (pos 1) p q (omega (arith, ints)) (omega (arith, ints)) in omega (arith, ints, h)
+  zero_zero p q = let h = a_stays (pos 0) (pos 0) (pos 1) p q (omega (arith, ints))
+      (omega (arith, ints)) in omega (arith, ints, h)
 
   zero_one : IsSamePoint x (penny (pos 0)) → IsSamePoint y (penny (pos 1)) → ⊥
-  zero_one p q = let h = b_stays (pos 0) (pos 1) (pos 0) p q (omega (arith, ints)) (omega (arith, ints)) in omega (arith, ints, h)
+  zero_one p q = let h = b_stays (pos 0) (pos 1) (pos 0) p q (omega (arith, ints))
+      (omega (arith, ints)) in omega (arith, ints, h)
 
   one_zero : IsSamePoint x (penny (pos 1)) → IsSamePoint y (penny (pos 0)) → ⊥
-  one_zero p q = let h = b_stays (pos 1) (pos 0) (pos 1) p q (omega (arith, ints)) (omega (arith, ints)) in omega (arith, ints, h)
+  one_zero p q = let h = b_stays (pos 1) (pos 0) (pos 1) p q (omega (arith, ints))
+      (omega (arith, ints)) in omega (arith, ints, h)
 
   one_one : IsSamePoint x (penny (pos 1)) → IsSamePoint y (penny (pos 1)) → ⊥
-  one_one p q = let h = a_stays (pos 1) (pos 1) (pos 0) p q (omega (arith, ints)) (omega (arith, ints)) in omega (arith, ints, h)
+  one_one p q = let h = a_stays (pos 1) (pos 1) (pos 0) p q (omega (arith, ints))
+      (omega (arith, ints)) in omega (arith, ints, h)
 
   never_stable : ⊥
   never_stable =
       let other = either (pos 2) b_term y y_feasible in
-      ⊎_elim (λ (p : IsSamePoint x (penny (pos 0))). ⊎_elim (λ (q : IsSamePoint y (penny (pos 0))). zero_zero p q) (λ (q : IsSamePoint y (penny (pos 1))). zero_one p q) other) (λ (p : IsSamePoint x (penny (pos 1))). ⊎_elim (λ (q : IsSamePoint y (penny (pos 0))). one_zero p q) (λ (q : IsSamePoint y (penny (pos 1))). one_one p q) other) (either (negsuc 1) a_term x x_feasible)
+      ⊎_elim (λ (p : IsSamePoint x (penny (pos 0))). ⊎_elim
+          (λ (q : IsSamePoint y (penny (pos 0))). zero_zero p q)
+          (λ (q : IsSamePoint y (penny (pos 1))). zero_one p q) other)
+          (λ (p : IsSamePoint x (penny (pos 1))). ⊎_elim
+          (λ (q : IsSamePoint y (penny (pos 0))). one_zero p q)
+          (λ (q : IsSamePoint y (penny (pos 1))). one_one p q) other)
+          (either (negsuc 1) a_term x x_feasible)
 
 pub no_pure : (profile : Profile) → All IsOne profile → IsEquilibrium pennies profile → ⊥
 no_pure [] pure e = let len = e.valid.len in omega arith
 no_pure (s ∷ []) pure e = let len = e.valid.len in omega arith
 no_pure (s ∷ t ∷ []) pure e =
-    never_stable (first_point s) (first_point t) (first_feasible a s (e.valid.strategies 0 a refl)) (first_feasible b t (e.valid.strategies 1 b refl)) ((pure_equilibria pennies (s ∷ t ∷ []) e.valid pure).0 e)
+    never_stable (first_point s) (first_point t) (first_feasible a s (e.valid.strategies 0 a refl))
+        (first_feasible b t (e.valid.strategies 1 b refl))
+        ((pure_equilibria pennies (s ∷ t ∷ []) e.valid pure).0 e)
 no_pure (s ∷ t ∷ u ∷ rest) pure e = let len = e.valid.len in omega arith

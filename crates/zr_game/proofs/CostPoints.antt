@@ -10,13 +10,16 @@ use Rattle.zr_game.specs.CostTerms.{HasPlace, IsOtherAt, IsTermAt}
 use Rattle.zr_game.proofs.Items.{at_number}
 use Rattle.zr_game.proofs.TermColumns.{columns_exist}
 
-module _ (game : GameOf) (form : IsGame game) (points : List PointOf) (are : ArePoints game points) (i : ℕ) (player : PlayerOf) (is : IsPlayer game i player) where
+module _ (game : GameOf) (form : IsGame game) (points : List PointOf) (are : ArePoints game points)
+    (i : ℕ) (player : PlayerOf) (is : IsPlayer game i player) where
   pub here : i < length points
   here = let w = slice_get_within game i player is in let len = are.len in omega arith
 
   pub own_columns_exist : All (λ t. t.0 < length (point_of points i).num) player.cost
   own_columns_exist =
-      subst (λ n. All (λ t. t.0 < n) player.cost) (sym (are.lens i player is)) (columns_exist IsCoefficient 0 (length player.vars) player.cost (form.players i player is).cost)
+      subst (λ n. All (λ t. t.0 < n) player.cost) (sym (are.lens i player is))
+          (columns_exist IsCoefficient 0 (length player.vars) player.cost
+          (form.players i player is).cost)
 
   pub terms_exist : All (IsTermAt i points) player.cross
   terms_exist k d h =

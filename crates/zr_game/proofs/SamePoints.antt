@@ -18,27 +18,40 @@ use Rattle.zr_game.specs.declared.player.CrossTerm.{CrossTerm}
 use Rattle.zr_game.specs.declared.player.Other.{Other}
 
 -- a number times fractions of one value
-pub multiple_same : (z : ℤ) (a b : Fraction) → IsSame a b → IsSame (times (whole z) a) (times (whole z) b)
-multiple_same z a b s = times_same (whole z) a (whole z) b (same_refl (whole z) (omega (arith, ints))) s
+pub multiple_same : (z : ℤ) (a b : Fraction) → IsSame a b
+    → IsSame (times (whole z) a) (times (whole z) b)
+multiple_same z a b s = times_same (whole z) a (whole z) b
+    (same_refl (whole z) (omega (arith, ints))) s
 
 module _ (f g : ℕ × ℕ → Fraction) where
   -- a term in the others' variables, where these have the same values
-  pub other_same : (t : Other) → IsSame (f t.first) (g t.first) → ((at : ℕ × ℕ) → t.second ≡ Some at → IsSame (f at) (g at)) → IsSame (other_at f t) (other_at g t)
+  pub other_same : (t : Other) → IsSame (f t.first) (g t.first)
+      → ((at : ℕ × ℕ) → t.second ≡ Some at → IsSame (f at) (g at))
+      → IsSame (other_at f t) (other_at g t)
   other_same t first second = on t.second second
     where
       one : IsSame (times (whole t.coef) (f t.first)) (times (whole t.coef) (g t.first))
       one = multiple_same t.coef (f t.first) (g t.first) first
 
-      on : (o : Option (ℕ × ℕ)) → ((at : ℕ × ℕ) → o ≡ Some at → IsSame (f at) (g at)) → IsSame (option_map_or (λ at. times (times (whole t.coef) (f t.first)) (f at)) o (times (whole t.coef) (f t.first))) (option_map_or (λ at. times (times (whole t.coef) (g t.first)) (g at)) o (times (whole t.coef) (g t.first)))
+      on : (o : Option (ℕ × ℕ)) → ((at : ℕ × ℕ) → o ≡ Some at → IsSame (f at) (g at))
+          → IsSame (option_map_or (λ at. times (times (whole t.coef) (f t.first)) (f at)) o
+          (times (whole t.coef) (f t.first)))
+          (option_map_or (λ at. times (times (whole t.coef) (g t.first)) (g at)) o
+          (times (whole t.coef) (g t.first)))
       on None h = one
       on (Some at) h =
-          times_same (times (whole t.coef) (f t.first)) (f at) (times (whole t.coef) (g t.first)) (g at) one (h at refl)
+          times_same (times (whole t.coef) (f t.first)) (f at) (times (whole t.coef) (g t.first))
+              (g at) one (h at refl)
 
-  pub rest_same : (player : PlayerOf) → ((at : ℕ × ℕ) → IsSame (f at) (g at)) → IsSame (rest_at player f) (rest_at player g)
+  pub rest_same : (player : PlayerOf) → ((at : ℕ × ℕ) → IsSame (f at) (g at))
+      → IsSame (rest_at player f) (rest_at player g)
   rest_same player h =
-      sum_over_same player.others (other_at f) (other_at g) (λ t. other_same t (h t.first) (λ at e. h at))
+      sum_over_same player.others (other_at f) (other_at g)
+          (λ t. other_same t (h t.first) (λ at e. h at))
 
-pub cost_same : (player : PlayerOf) (i : ℕ) (points others : List PointOf) → ((k v : ℕ) → IsSame (value_of (point_of points k) v) (value_of (point_of others k) v)) → IsSame (cost_of player i points) (cost_of player i others)
+pub cost_same : (player : PlayerOf) (i : ℕ) (points others : List PointOf)
+    → ((k v : ℕ) → IsSame (value_of (point_of points k) v) (value_of (point_of others k) v))
+    → IsSame (cost_of player i points) (cost_of player i others)
 cost_same player i points others h =
     let a = value_of (point_of points i) in
     let b = value_of (point_of others i) in
@@ -46,8 +59,10 @@ cost_same player i points others h =
     let g = value_at_place others in
     let here = λ (t : ℕ × ℤ). multiple_same t.1 (a t.0) (b t.0) (h i t.0) in
     let far = λ (at : ℕ × ℕ). h at.0 at.1 in
-    let pair = λ (t : CrossTerm). times_same (a t.own) (f (t.player, t.var)) (b t.own) (g (t.player, t.var)) (h i t.own) (far (t.player, t.var)) in
-    let there = λ (t : CrossTerm). multiple_same t.coef (times (a t.own) (f (t.player, t.var))) (times (b t.own) (g (t.player, t.var))) (pair t) in
+    let pair = λ (t : CrossTerm). times_same (a t.own) (f (t.player, t.var)) (b t.own)
+        (g (t.player, t.var)) (h i t.own) (far (t.player, t.var)) in
+    let there = λ (t : CrossTerm). multiple_same t.coef (times (a t.own) (f (t.player, t.var)))
+        (times (b t.own) (g (t.player, t.var))) (pair t) in
     let own = sum_over_same player.cost (own_at a) (own_at b) here in
     let cross = sum_over_same player.cross (cross_at a f) (cross_at b g) there in
     let terms = sum_over player.cost (own_at a) in
@@ -55,10 +70,12 @@ cost_same player i points others h =
     let crossed = sum_over player.cross (cross_at a f) in
     let other_crossed = sum_over player.cross (cross_at b g) in
     let both = plus_same terms crossed other_terms other_crossed own cross in
-    plus_same (plus terms crossed) (rest_at player f) (plus other_terms other_crossed) (rest_at player g) both (rest_same f g player far)
+    plus_same (plus terms crossed) (rest_at player f) (plus other_terms other_crossed)
+        (rest_at player g) both (rest_same f g player far)
 
 -- what holds of `n / d` holds of the same value `m / e`
-module _ (n d m e : ℤ) (d_positive : (pos 0) <ℤ d) (e_positive : (pos 0) <ℤ e) (same : n *ℤ e ≡ m *ℤ d) where
+module _ (n d m e : ℤ) (d_positive : (pos 0) <ℤ d) (e_positive : (pos 0) <ℤ e)
+    (same : n *ℤ e ≡ m *ℤ d) where
   at_least : (pos 0) ≤ℤ n → (pos 0) ≤ℤ m
   at_least h =
       let l = le_times (pos 0) n e e_positive h in
@@ -87,14 +104,17 @@ module _ (n d m e : ℤ) (d_positive : (pos 0) <ℤ d) (e_positive : (pos 0) <�
       let l = ap (λ z. z *ℤ e) h in cancel m (pos 0) d d_positive (omega (arith, ints, l, same))
 
 module _ (x y : PointOf) (same : IsSamePoint x y) where
-  same_sum : (coef : Terms) → sum_products (products coef x.num) *ℤ y.den ≡ sum_products (products coef y.num) *ℤ x.den
+  same_sum : (coef : Terms)
+      → sum_products (products coef x.num) *ℤ y.den ≡ sum_products (products coef y.num) *ℤ x.den
   same_sum [] = omega (arith, ints)
   same_sum (t ∷ ts) =
       let r = same_sum ts in
       let s = same.values t.0 in
-      head t.1 (num_of x t.0) y.den (num_of y t.0) x.den (sum_products (products ts x.num)) (sum_products (products ts y.num)) s r
+      head t.1 (num_of x t.0) y.den (num_of y t.0) x.den (sum_products (products ts x.num))
+          (sum_products (products ts y.num)) s r
     where
-      head : (c n e m d a b : ℤ) → n *ℤ e ≡ m *ℤ d → a *ℤ e ≡ b *ℤ d → (c *ℤ n +ℤ a) *ℤ e ≡ (c *ℤ m +ℤ b) *ℤ d
+      head : (c n e m d a b : ℤ) → n *ℤ e ≡ m *ℤ d → a *ℤ e ≡ b *ℤ d
+          → (c *ℤ n +ℤ a) *ℤ e ≡ (c *ℤ m +ℤ b) *ℤ d
       head c n e m d a b s r =
           let l = ap (λ z. c *ℤ z) s in
           let q = simp spread at r in
@@ -108,15 +128,19 @@ module _ (x y : PointOf) (same : IsSamePoint x y) where
   within var v w = record {
     low = low var.low w.low;
     high = up var.up w.high;
-    whole = λ h. let k = w.whole h in (k.0, multiple (num_of x v) x.den (num_of y v) y.den same.left same.right (same.values v) k.0 k.1);
+    whole = λ h. let k = w.whole h in
+        (k.0, multiple (num_of x v) x.den (num_of y v) y.den same.left same.right (same.values v)
+        k.0 k.1);
   }
     where
-      low : (o : Option ℤ) → IfSome o (λ b. (b *ℤ x.den) ≤ℤ num_of x v) → IfSome o (λ b. (b *ℤ y.den) ≤ℤ num_of y v)
+      low : (o : Option ℤ) → IfSome o (λ b. (b *ℤ x.den) ≤ℤ num_of x v)
+          → IfSome o (λ b. (b *ℤ y.den) ≤ℤ num_of y v)
       low None h = h
       low (Some b) h =
           at_least_of (num_of x v) x.den (num_of y v) y.den same.left same.right (same.values v) b h
 
-      up : (o : Option ℤ) → IfSome o (λ b. num_of x v ≤ℤ (b *ℤ x.den)) → IfSome o (λ b. num_of y v ≤ℤ (b *ℤ y.den))
+      up : (o : Option ℤ) → IfSome o (λ b. num_of x v ≤ℤ (b *ℤ x.den))
+          → IfSome o (λ b. num_of y v ≤ℤ (b *ℤ y.den))
       up None h = h
       up (Some b) h =
           at_most_of (num_of x v) x.den (num_of y v) y.den same.left same.right (same.values v) b h
@@ -128,14 +152,18 @@ module _ (x y : PointOf) (same : IsSamePoint x y) where
       let n = num_of x pair.var in
       let m = num_of y pair.var in
       let here = λ (z : n ≡ pos 0). inl (none n x.den m y.den same.left same.right value z) in
-      let there = λ (z : slack pair x ≡ pos 0). inr (none (slack pair x) x.den (slack pair y) y.den same.left same.right s z) in
-      (at_least n x.den m y.den same.left same.right value h.0, at_least (slack pair x) x.den (slack pair y) y.den same.left same.right s h.1, ⊎_elim here there h.2)
+      let there = λ (z : slack pair x ≡ pos 0). inr
+          (none (slack pair x) x.den (slack pair y) y.den same.left same.right s z) in
+      (at_least n x.den m y.den same.left same.right value h.0,
+          at_least (slack pair x) x.den (slack pair y) y.den same.left same.right s h.1,
+          ⊎_elim here there h.2)
 
   pub feasible_same : (player : PlayerOf) → IsFeasible player x → IsFeasible player y
   feasible_same player f = record {
     point = same.right;
     len = sym same.len ∙ f.len;
     bounds = λ v var e. within var v (f.bounds v var e);
-    rows = λ k d h. at_most_of (sum_products (products _ x.num)) x.den (sum_products (products _ y.num)) y.den same.left same.right (same_sum _) _ (f.rows k d h);
+    rows = λ k d h. at_most_of (sum_products (products _ x.num)) x.den
+        (sum_products (products _ y.num)) y.den same.left same.right (same_sum _) _ (f.rows k d h);
     pairs = λ k d h. pair_same (get_or player.pairs k d) (f.pairs k d h);
   }

@@ -26,7 +26,9 @@ bound_is : (P : ℤ → Type 0) (o : Option ℤ) (b : ℤ) → o ≡ Some b → 
 bound_is P None b e h = absurd cc
 bound_is P (Some a) b e h = let s : a ≡ b = cc in subst P s h
 
-pub whole_value : (player : PlayerOf) (x : PointOf) → IsFeasible player x → (v : ℕ) (var : VarOf) → slice_get player.vars v ≡ Some var → IsTrue var.whole → (low up : ℤ) → var.low ≡ Some low → var.up ≡ Some up → IsWholeValue (num_of x v) x.den low up
+pub whole_value : (player : PlayerOf) (x : PointOf) → IsFeasible player x → (v : ℕ) (var : VarOf)
+    → slice_get player.vars v ≡ Some var → IsTrue var.whole → (low up : ℤ) → var.low ≡ Some low
+    → var.up ≡ Some up → IsWholeValue (num_of x v) x.den low up
 whole_value player x f v var found whole low up low_is up_is =
     let w = f.bounds v var found in
     let m = w.whole whole in
@@ -49,7 +51,8 @@ IsWholePoint x = (v : ℕ) → v < length x.num → IsMultiple (num_of x v) x.de
 
 pub exact_quotient : (n d : ℤ) → IsMultiple n d → int_div n d *ℤ d ≡ n
 exact_quotient n d m =
-    quot_exact n d (subst (λ z. unsigned_abs d ∣ z) (sym (unsigned_abs-mul m.0 d) ∙ ap unsigned_abs (sym m.1)) (dvd-mul_left (unsigned_abs d) (unsigned_abs m.0)))
+    quot_exact n d (subst (λ z. unsigned_abs d ∣ z) (sym (unsigned_abs-mul m.0 d) ∙
+        ap unsigned_abs (sym m.1)) (dvd-mul_left (unsigned_abs d) (unsigned_abs m.0)))
 
 pub same_whole : (x : PointOf) → (pos 0) <ℤ x.den → IsWholePoint x → IsSamePoint x (whole_of x)
 same_whole x positive whole = record {
@@ -77,19 +80,24 @@ same_whole x positive whole = record {
     each v = ⊎_elim (inside v) (outside v) (cases_lt v (length x.num))
 
 -- where all variables are whole, a feasible point is whole
-pub feasible_whole : (player : PlayerOf) (x : PointOf) → IsFeasible player x → ((v : ℕ) (var : VarOf) → slice_get player.vars v ≡ Some var → IsTrue var.whole) → IsWholePoint x
+pub feasible_whole : (player : PlayerOf) (x : PointOf) → IsFeasible player x
+    → ((v : ℕ) (var : VarOf) → slice_get player.vars v ≡ Some var → IsTrue var.whole)
+    → IsWholePoint x
 feasible_whole player x f all v h =
     let len = f.len in
     let var = at_number player.vars v (omega arith) in
     (f.bounds v var.0 var.1).whole (all v var.0 var.1)
 
 -- and so is the point with the denominator 1
-pub whole_feasible : (player : PlayerOf) (x : PointOf) → IsFeasible player x → IsWholePoint x → IsFeasible player (whole_of x)
+pub whole_feasible : (player : PlayerOf) (x : PointOf) → IsFeasible player x → IsWholePoint x
+    → IsFeasible player (whole_of x)
 whole_feasible player x f whole =
     feasible_same x (whole_of x) (same_whole x f.point whole) player f
 
 -- its numbers are between the bounds
-pub whole_within : (player : PlayerOf) (x : PointOf) → IsFeasible player x → IsWholePoint x → (v : ℕ) (var : VarOf) → slice_get player.vars v ≡ Some var → (low up : ℤ) → var.low ≡ Some low → var.up ≡ Some up → (low ≤ℤ num_of (whole_of x) v) × (num_of (whole_of x) v ≤ℤ up)
+pub whole_within : (player : PlayerOf) (x : PointOf) → IsFeasible player x → IsWholePoint x
+    → (v : ℕ) (var : VarOf) → slice_get player.vars v ≡ Some var → (low up : ℤ) → var.low ≡ Some low
+    → var.up ≡ Some up → (low ≤ℤ num_of (whole_of x) v) × (num_of (whole_of x) v ≤ℤ up)
 whole_within player x f whole v var found low up low_is up_is =
     let n = num_of (whole_of x) v in
     let w = (whole_feasible player x f whole).bounds v var found in

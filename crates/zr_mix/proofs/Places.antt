@@ -1,4 +1,5 @@
--- The places of the players' variables, one player after another, and slopes at the means that stand there.
+-- The places of the players' variables, one player after another, and slopes at the means that
+-- stand there.
 use Rattle.std.proofs.Common.{◌≡◌, ℕ, zero, suc, ◌+◌, ◌<◌, ◌≤◌, ◌==◌, arith, refl, sym, ap, subst, pos, true, Some, Bool, cond, Result, Ok, Err, IfOk, OnOk, List, [], ◌∷◌, length, map, get_or, drop, drop-cons, All}
 use Rattle.std.specs.Bool.{⊤}
 use Rattle.std.specs.List.{filter}
@@ -29,12 +30,17 @@ use Rattle.zr_mix.specs.Values.{AreMeans, AreReduced, HasMean, HasMeans, IsReduc
 use Rattle.zr_mix.proofs.Filtered.{plus_none}
 
 -- a variable that exists has a place
-pub place_below : (game : GameOf) (k v : ℕ) (player : PlayerOf) → IsPlayer game k player → v < length player.vars → place_of game k v < var_total game
+pub place_below : (game : GameOf) (k v : ℕ) (player : PlayerOf) → IsPlayer game k player
+    → v < length player.vars → place_of game k v < var_total game
 place_below [] k v player is h = absurd cc
-place_below (p ∷ ps) zero v player is h = let e : p ≡ player = cc in let h2 = subst (λ (q : PlayerOf). v < length q.vars) (sym e) h in omega (arith, h2)
-place_below (p ∷ ps) (suc k) v player is h = let r = place_below ps k v player is h in omega (arith, r)
+place_below (p ∷ ps) zero v player is h = let e : p ≡ player = cc in
+    let h2 = subst (λ (q : PlayerOf). v < length q.vars) (sym e) h in omega (arith, h2)
+place_below (p ∷ ps) (suc k) v player is h = let r = place_below ps k v player is h in
+    omega (arith, r)
 
-module _ (game : GameOf) (form : IsGame game) (i : ℕ) (player : PlayerOf) (is : IsPlayer game i player) (means : List Fraction) (len : length means ≡ var_total game) where
+module _ (game : GameOf) (form : IsGame game) (i : ℕ) (player : PlayerOf)
+    (is : IsPlayer game i player) (means : List Fraction) (len : length means ≡ var_total game)
+    where
   place_there : (k v : ℕ) → k < length game → HasVar game k v → HasMean game means (k, v)
   place_there k v player has =
       let other = at_number game k player in
@@ -51,11 +57,15 @@ module _ (game : GameOf) (form : IsGame game) (i : ℕ) (player : PlayerOf) (is 
   means_there k d h =
       let t = get_or player.others k d in
       let f = (form.players i player is).others k d h in
-      let at = λ (at : ℕ × ℕ) (e : t.second ≡ Some at). let g = (f.second at e).1 in place_there at.0 at.1 g.player g.var in
+      let at = λ (at : ℕ × ℕ) (e : t.second ≡ Some at). let g = (f.second at e).1 in
+          place_there at.0 at.1 g.player g.var in
       (place_there t.first.0 t.first.1 f.first.player f.first.var, at)
 
 -- the variables of the players from number j on
-pub one_player : (players : List Player) (j : ℕ) (x : Player) → j < length players → x ≡ get_or players j x → length x.vars.items + var_total (map player_of (drop (j + 1) players)) ≡ var_total (map player_of (drop j players))
+pub one_player : (players : List Player) (j : ℕ) (x : Player) → j < length players
+    → x ≡ get_or players j x
+    → length x.vars.items + var_total (map player_of (drop (j + 1) players)) ≡ var_total
+    (map player_of (drop j players))
 one_player players j x h is =
     let n : j + 1 ≡ suc j = omega arith in
     let c = ap (λ (ps : List Player). var_total (map player_of ps)) (drop-cons players j x h) in
@@ -64,23 +74,32 @@ one_player players j x h is =
     let m = ap (λ k. var_total (map player_of (drop k players))) n in
     omega (arith, c, l, s, m)
 
-pub no_player : (players : List Player) (j : ℕ) → length players ≤ j → var_total (map player_of (drop j players)) ≡ 0
-no_player players j h = ap (λ (ps : List Player). var_total (map player_of ps)) (drop_of_length-le players h)
+pub no_player : (players : List Player) (j : ℕ) → length players ≤ j
+    → var_total (map player_of (drop j players)) ≡ 0
+no_player players j h = ap (λ (ps : List Player). var_total (map player_of ps))
+    (drop_of_length-le players h)
 
 -- a sum over a list of fractions with the values of others
-sum_same : {A : Type 0} (f g : A → Fraction) (xs : List A) → Each (λ x. IsSame (f x) (g x)) xs → IsSame (sum_over xs f) (sum_over xs g)
+sum_same : {A : Type 0} (f g : A → Fraction) (xs : List A) → Each (λ x. IsSame (f x) (g x)) xs
+    → IsSame (sum_over xs f) (sum_over xs g)
 sum_same f g [] all = same_refl (whole (pos 0)) (omega (arith, ints))
 sum_same f g (x ∷ xs) all =
     plus_same (f x) (sum_over xs f) (g x) (sum_over xs g) all.0 (sum_same f g xs all.1)
 
-module _ (game : GameOf) (form : IsGame game) (i : ℕ) (player : PlayerOf) (is : IsPlayer game i player) (profile : Profile) (means : List Fraction) (are : AreMeans game profile means) where
-  term_same : (t : CrossTerm) → IsCrossForm game i (length player.vars) t → IsSame (term_at game means t) (times (whole t.coef) (mean (strategy_of profile t.player) t.var))
+module _ (game : GameOf) (form : IsGame game) (i : ℕ) (player : PlayerOf)
+    (is : IsPlayer game i player) (profile : Profile) (means : List Fraction)
+    (are : AreMeans game profile means) where
+  term_same : (t : CrossTerm) → IsCrossForm game i (length player.vars) t
+      → IsSame (term_at game means t) (times (whole t.coef)
+      (mean (strategy_of profile t.player) t.var))
   term_same t f =
       let other = at_number game t.player f.player in
       let m = are t.player other.0 other.1 t.var (f.var other.0 other.1) in
-      multiple_same t.coef (mean_in game means (t.player, t.var)) (mean (strategy_of profile t.player) t.var) m.same
+      multiple_same t.coef (mean_in game means (t.player, t.var))
+          (mean (strategy_of profile t.player) t.var) m.same
 
-  pub at_means : (v : ℕ) (f : Fraction) → IsReduced f (slope_at game player means v) → IsReduced f (slope player profile v)
+  pub at_means : (v : ℕ) (f : Fraction) → IsReduced f (slope_at game player means v)
+      → IsReduced f (slope player profile v)
   at_means v f reduced =
       let Form = IsCrossForm game i (length player.vars) in
       let test = λ (t : CrossTerm). t.own == v in
@@ -88,51 +107,67 @@ module _ (game : GameOf) (form : IsGame game) (i : ℕ) (player : PlayerOf) (is 
       let c = whole (coef_at player.cost v) in
       let g = term_at game means in
       let h = λ (t : CrossTerm). times (whole t.coef) (mean (strategy_of profile t.player) t.var) in
-      let forms = each_filter Form test player.cross (each_of_all Form player.cross (form.players i player is).cross) in
+      let forms = each_filter Form test player.cross
+          (each_of_all Form player.cross (form.players i player is).cross) in
       let sums = sum_same g h ts (each_weaker Form (λ t. IsSame (g t) (h t)) ts term_same forms) in
-      let all = plus_same c (sum_over ts g) c (sum_over ts h) (same_refl c (omega (arith, ints))) sums in
+      let all = plus_same c (sum_over ts g) c (sum_over ts h) (same_refl c (omega (arith, ints)))
+          sums in
       record {
         lowest = reduced.lowest;
         same = same_through f (plus c (sum_over ts g)) (plus c (sum_over ts h)) reduced.same all;
       }
 
-  pub all_at_means : (r : Result ⊤ Wide) (out : List Fraction) (n : ℕ) → OnOk r (AreReduced out n (slope_at game player means)) → OnOk r (AreReduced out n (slope player profile))
-  all_at_means (Ok u) out n all = record { len = all.len; each = λ v h. at_means v (item_of out v) (all.each v h) }
+  pub all_at_means : (r : Result ⊤ Wide) (out : List Fraction) (n : ℕ)
+      → OnOk r (AreReduced out n (slope_at game player means))
+      → OnOk r (AreReduced out n (slope player profile))
+  all_at_means (Ok u) out n all = record { len = all.len;
+      each = λ v h. at_means v (item_of out v) (all.each v h) }
   all_at_means (Err w) out n all = tt
 
-  other_there : (t : Other) → IsOtherForm game i t → IsSame (other_at (mean_in game means) t) (other_at (mean_at_place profile) t)
+  other_there : (t : Other) → IsOtherForm game i t
+      → IsSame (other_at (mean_in game means) t) (other_at (mean_at_place profile) t)
   other_there t f =
-      other_same (mean_in game means) (mean_at_place profile) t (at_place t.first f.first) (λ at e. at_place at (f.second at e).1)
+      other_same (mean_in game means) (mean_at_place profile) t (at_place t.first f.first)
+          (λ at e. at_place at (f.second at e).1)
     where
-      at_place : (at : ℕ × ℕ) → IsOthersVar game i at → IsSame (mean_in game means at) (mean_at_place profile at)
+      at_place : (at : ℕ × ℕ) → IsOthersVar game i at
+          → IsSame (mean_in game means at) (mean_at_place profile at)
       at_place at f =
           let other = at_number game at.0 f.player in
           (are at.0 other.0 other.1 at.1 (f.var other.0 other.1)).same
 
-  pub rest_at_means : (r : Result Fraction Wide) → IfOk r (λ f. IsReduced f (rest_at player (mean_in game means))) → IfOk r (λ f. IsReduced f (rest player profile))
+  pub rest_at_means : (r : Result Fraction Wide)
+      → IfOk r (λ f. IsReduced f (rest_at player (mean_in game means)))
+      → IfOk r (λ f. IsReduced f (rest player profile))
   rest_at_means (Ok f) reduced =
       let Form = IsOtherForm game i in
       let g = other_at (mean_in game means) in
       let h = other_at (mean_at_place profile) in
       let forms = each_of_all Form player.others (form.players i player is).others in
-      let sums = sum_same g h player.others (each_weaker Form (λ t. IsSame (g t) (h t)) player.others other_there forms) in
+      let sums = sum_same g h player.others (each_weaker Form (λ t. IsSame (g t) (h t))
+          player.others other_there forms) in
       record {
         lowest = reduced.lowest;
-        same = same_through f (rest_at player (mean_in game means)) (rest player profile) reduced.same sums;
+        same = same_through f (rest_at player (mean_in game means)) (rest player profile)
+            reduced.same sums;
       }
   rest_at_means (Err w) reduced = tt
 
-pub reduced_if : (r : Result Fraction Wide) (x : Fraction) → IfOk r (λ f. IsSame f x) → IfOk r IsLowest → IfOk r (λ f. IsReduced f x)
+pub reduced_if : (r : Result Fraction Wide) (x : Fraction) → IfOk r (λ f. IsSame f x)
+    → IfOk r IsLowest → IfOk r (λ f. IsReduced f x)
 reduced_if (Ok f) x same lowest = record { lowest = lowest; same = same }
 reduced_if (Err w) x same lowest = tt
 
 -- the one term, which passes
-pub only_term : {A : Type 0} (b : Bool) → b ≡ true → (g : A → Fraction) (t : A) (f sum : Fraction) → IsSame f (plus sum (g t)) → IsSame f (plus sum (sum_over (cond b (t ∷ []) []) g))
+pub only_term : {A : Type 0} (b : Bool) → b ≡ true → (g : A → Fraction) (t : A) (f sum : Fraction)
+    → IsSame f (plus sum (g t)) → IsSame f (plus sum (sum_over (cond b (t ∷ []) []) g))
 only_term {A} b e g t f sum h =
-    subst (λ (y : Bool). IsSame f (plus sum (sum_over (cond y (t ∷ []) []) g))) (sym e) (subst (λ (z : Fraction). IsSame f (plus sum z)) (sym (plus_none (g t))) h)
+    subst (λ (y : Bool). IsSame f (plus sum (sum_over (cond y (t ∷ []) []) g))) (sym e)
+        (subst (λ (z : Fraction). IsSame f (plus sum z)) (sym (plus_none (g t))) h)
 
 -- the sum with the one term, which passes
-pub only_made : {A : Type 0} (make : A → Result Fraction Wide) (b : Bool) → b ≡ true → (t : A) (s a : Fraction) → make t ≡ Ok a → add_of s a ≡ sum_made make s (cond b (t ∷ []) [])
+pub only_made : {A : Type 0} (make : A → Result Fraction Wide) (b : Bool) → b ≡ true
+    → (t : A) (s a : Fraction) → make t ≡ Ok a → add_of s a ≡ sum_made make s (cond b (t ∷ []) [])
 only_made make b e t s a made = rw (e, made) (last (add_of s a))
   where
     last : (r : Result Fraction Wide) → r ≡ (r >>= λ z. Ok z)

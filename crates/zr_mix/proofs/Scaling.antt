@@ -5,16 +5,22 @@ use Rattle.zr_base.specs.Fractions.{Fraction, IsSame, over, plus, ratio, times, 
 use Rattle.zr_base.proofs.Ring.{spread}
 use Rattle.zr_base.proofs.Divisors.{cancel, mul_positive}
 
-scaled_num : (fn fd wn wd w t n d : ℤ) → (pos 0) <ℤ t → fn *ℤ ((wd *ℤ t) *ℤ (t *ℤ d)) ≡ (wn *ℤ (t *ℤ d) +ℤ (w *ℤ n) *ℤ (wd *ℤ t)) *ℤ fd → fn *ℤ ((wd *ℤ d) *ℤ t) ≡ (wn *ℤ d +ℤ (w *ℤ n) *ℤ wd) *ℤ fd
+scaled_num : (fn fd wn wd w t n d : ℤ) → (pos 0) <ℤ t
+    → fn *ℤ ((wd *ℤ t) *ℤ (t *ℤ d)) ≡ (wn *ℤ (t *ℤ d) +ℤ (w *ℤ n) *ℤ (wd *ℤ t)) *ℤ fd
+    → fn *ℤ ((wd *ℤ d) *ℤ t) ≡ (wn *ℤ d +ℤ (w *ℤ n) *ℤ wd) *ℤ fd
 scaled_num fn fd wn wd w t n d positive e =
     let s = simp spread at e in
-    cancel (fn *ℤ ((wd *ℤ d) *ℤ t)) ((wn *ℤ d +ℤ (w *ℤ n) *ℤ wd) *ℤ fd) t positive (simp spread (omega (arith, ints, s)))
+    cancel (fn *ℤ ((wd *ℤ d) *ℤ t)) ((wn *ℤ d +ℤ (w *ℤ n) *ℤ wd) *ℤ fd) t positive
+        (simp spread (omega (arith, ints, s)))
 
 -- one share more
-pub one_share : (f sum x : Fraction) (w t : ℤ) → (pos 0) <ℤ t → (pos 0) <ℤ sum.den → (pos 0) <ℤ x.den → IsSame f (plus (over sum t) (times (ratio w t) x)) → IsSame f (over (plus sum (times (whole w) x)) t)
+pub one_share : (f sum x : Fraction) (w t : ℤ) → (pos 0) <ℤ t → (pos 0) <ℤ sum.den
+    → (pos 0) <ℤ x.den → IsSame f (plus (over sum t) (times (ratio w t) x))
+    → IsSame f (over (plus sum (times (whole w) x)) t)
 one_share f sum x w t positive above below e =
     let one : pos 1 *ℤ x.den ≡ x.den = omega (arith, ints) in
-    let den : (pos 0) <ℤ ((sum.den *ℤ (pos 1 *ℤ x.den)) *ℤ t) = rw one (mul_positive (sum.den *ℤ x.den) t (mul_positive sum.den x.den above below) positive) in
+    let den : (pos 0) <ℤ ((sum.den *ℤ (pos 1 *ℤ x.den)) *ℤ t) = rw one
+        (mul_positive (sum.den *ℤ x.den) t (mul_positive sum.den x.den above below) positive) in
     record {
       left = e.left;
       right = den;

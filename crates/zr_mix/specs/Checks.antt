@@ -11,8 +11,10 @@ use Rattle.zr_game.specs.Profiles.{Profile, strategy_of}
 use Rattle.zr_mix.specs.Claims.{IsClaim}
 use Rattle.zr_mix.specs.Values.{AreInLowestTerms, IsInLowestTerms}
 
--- the claim of player i in a profile: that of its slope and of its own cost along it, both in lowest terms
-pub record IsClaimOf (player : PlayerOf) (i : ℕ) (profile : Profile) (left : List ℤ) (right : ℤ) : Type 0 where
+-- the claim of player i in a profile: that of its slope and of its own cost along it, both in
+-- lowest terms
+pub record IsClaimOf (player : PlayerOf) (i : ℕ) (profile : Profile) (left : List ℤ)
+    (right : ℤ) : Type 0 where
   pub slopes : List Fraction
   pub value : Fraction
   pub by : ℤ
@@ -22,9 +24,12 @@ pub record IsClaimOf (player : PlayerOf) (i : ℕ) (profile : Profile) (left : L
 
 -- the claim holds at each feasible point
 abbrev pub ClaimHolds : PlayerOf → List ℤ → ℤ → Type 0
-ClaimHolds player left right = (x : PointOf) → IsFeasible player x → BoundHolds player x (bound_with left right)
+ClaimHolds player left right = (x : PointOf) → IsFeasible player x
+    → BoundHolds player x (bound_with left right)
 
 -- each player has a claim that holds
 abbrev pub HasClaims : GameOf → Profile → Type 0
 HasClaims game profile =
-    (i : ℕ) (player : PlayerOf) → IsPlayer game i player → (left : List ℤ) × (right : ℤ) × (IsClaimOf player i profile left right × ClaimHolds player left right)
+    (i : ℕ) (player : PlayerOf) → IsPlayer game i player
+        → (left : List ℤ) × (right : ℤ) × (IsClaimOf player i profile left right ×
+        ClaimHolds player left right)

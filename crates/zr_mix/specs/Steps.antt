@@ -21,7 +21,8 @@ share total v part = mul_of (reduce part.weight total) (reduce (num_of part.poin
 abbrev pub mean_steps : ℤ → Strategy → ℕ → Result Fraction Wide
 mean_steps total parts v = sum_made (share total v) (whole (pos 0)) parts
 
--- the number of a player's variable when the variables of all players are numbered one after another
+-- the number of a player's variable when the variables of all players are numbered one after
+-- another
 abbrev pub var_total : GameOf → ℕ
 var_total [] = 0
 var_total (player ∷ players) = length player.vars + var_total players
@@ -40,7 +41,8 @@ slope_term game means t = mul_of (whole t.coef) (mean_in game means (t.player, t
 -- the own number of v, and then its cross terms in their order
 abbrev pub slope_steps : GameOf → PlayerOf → List Fraction → ℕ → Result Fraction Wide
 slope_steps game player means v =
-    sum_made (slope_term game means) (whole (coef_at player.cost v)) (filter (λ t. t.own == v) player.cross)
+    sum_made (slope_term game means) (whole (coef_at player.cost v))
+        (filter (λ t. t.own == v) player.cross)
 
 -- a times the mean of the variable at the place, if there is one
 abbrev pub times_mean : GameOf → List Fraction → Fraction → Option (ℕ × ℕ) → Result Fraction Wide
@@ -65,7 +67,8 @@ value_steps slope mean = sum_made (λ p. mul_of p.0 p.1) (whole (pos 0)) (zip sl
 abbrev pub multiple_steps : ℤ → List Fraction → Result ℤ Wide
 multiple_steps m [] = Ok m
 multiple_steps m (f ∷ fs) =
-    cross_of (m, int_div f.den (pos (gcd_of (unsigned_abs m) (unsigned_abs f.den)))) (pos 0, pos 0) >>= λ r. multiple_steps r fs
+    cross_of (m, int_div f.den (pos (gcd_of (unsigned_abs m) (unsigned_abs f.den)))) (pos 0, pos 0)
+        >>= λ r. multiple_steps r fs
 
 -- the negated number over the common multiple m
 abbrev pub negated_over : ℤ → Fraction → Result ℤ Wide

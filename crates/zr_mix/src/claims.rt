@@ -56,7 +56,8 @@ fn write_left(slope: &[Frac], m: i128, out: &mut [i128]) -> Result<(), Wide>
     requires positive { pos 0 <ℤ m }
     requires multiples { All (IsMultipleOf m) slope.now }
     ensures steps { Writes (all_negated m slope.now) result out.new }
-    ensures exact { OnOk result ((v : ℕ) → v < length slope.now → IsNegatedOver m (item_of slope.now v) (slice_index_or out.new v (pos 0))) }
+    ensures exact { OnOk result ((v : ℕ) → v < length slope.now
+        → IsNegatedOver m (item_of slope.now v) (slice_index_or out.new v (pos 0))) }
 {
     for v in 0..slope.len() {
         out[v] = negated(slope[v], m)?;

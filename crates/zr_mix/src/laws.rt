@@ -19,13 +19,15 @@ pub fn law_of_costs_by_means()
     ensures played { (game : GameOf) → IsGame game → (profile : ProfileOf) → IsProfile game profile
         → (i : ℕ) (player : PlayerOf) → IsPlayer game i player
         → IsSame (expected_cost player i profile)
-        (plus (along_slope player profile (mean (strategy_of profile i))) (rest_of player profile)) }
+        (plus (along_slope player profile (mean (strategy_of profile i)))
+        (rest_of player profile)) }
     ensures made { (game : GameOf) → IsGame game → (profile : ProfileOf) → IsProfile game profile
         → (i : ℕ) (player : PlayerOf) → IsPlayer game i player → (value rest f : Fraction)
         → IsReduced value (along_slope player profile (mean (strategy_of profile i)))
         → IsReduced rest (rest_of player profile) → add_of value rest ≡ Ok f
         → IsReduced f (expected_cost player i profile) }
-    ensures deviated { (game : GameOf) → IsGame game → (profile : ProfileOf) → IsProfile game profile
+    ensures deviated { (game : GameOf) → IsGame game → (profile : ProfileOf)
+        → IsProfile game profile
         → (i : ℕ) (player : PlayerOf) → IsPlayer game i player → (x : PointOf) → IsFeasible player x
         → IsSame (expected_cost player i (deviation profile i x))
         (plus (along_slope player profile (value_of x)) (rest_of player profile)) }
@@ -34,7 +36,10 @@ pub fn law_of_costs_by_means()
 /// A profile is an equilibrium where each player has a claim that holds at each feasible point, and
 /// the claims of an equilibrium do.
 pub fn law_of_claims()
-    ensures enough { (game : GameOf) → IsGame game → (profile : ProfileOf) → IsProfile game profile → HasClaims game profile → IsEquilibrium game profile }
-    ensures needed { (game : GameOf) → IsGame game → (profile : ProfileOf) → IsEquilibrium game profile → (i : ℕ) (player : PlayerOf) → IsPlayer game i player
-        → (left : List ℤ) (right : ℤ) → IsClaimOf player i profile left right → ClaimHolds player left right }
+    ensures enough { (game : GameOf) → IsGame game → (profile : ProfileOf) → IsProfile game profile
+        → HasClaims game profile → IsEquilibrium game profile }
+    ensures needed { (game : GameOf) → IsGame game → (profile : ProfileOf)
+        → IsEquilibrium game profile → (i : ℕ) (player : PlayerOf) → IsPlayer game i player
+        → (left : List ℤ) (right : ℤ) → IsClaimOf player i profile left right → ClaimHolds player
+        left right }
 {}

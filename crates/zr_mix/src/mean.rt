@@ -23,9 +23,12 @@ use zr_base::{Frac, Wide};
 pub fn means(strategy: &Strategy, out: &mut [Frac]) -> Result<(), Wide>
     requires total { pos 1 ≤ℤ strategy.now.total }
     requires weights { All (λ part. pos 1 ≤ℤ part.weight) (parts_of strategy.now) }
-    requires lengths { All (λ part. length part.point.num ≡ length out.old) (parts_of strategy.now) }
-    ensures steps { Writes (made_from (mean_steps strategy.now.total (parts_of strategy.now)) 0 (length out.old)) result out.new }
-    ensures exact { OnOk result (strategy.now.total ≡ weights_of (parts_of strategy.now) → AreReduced out.new (length out.old) (mean_of_strategy (parts_of strategy.now))) }
+    requires lengths { All (λ part. length part.point.num ≡ length out.old)
+        (parts_of strategy.now) }
+    ensures steps { Writes (made_from (mean_steps strategy.now.total (parts_of strategy.now)) 0
+        (length out.old)) result out.new }
+    ensures exact { OnOk result (strategy.now.total ≡ weights_of (parts_of strategy.now)
+        → AreReduced out.new (length out.old) (mean_of_strategy (parts_of strategy.now))) }
 {
     for v in 0..out.len() {
         out[v] = mean_at(&strategy.parts, strategy.total, v)?;
@@ -39,7 +42,8 @@ fn mean_at(parts: &[Part], total: i128, v: usize) -> Result<Frac, Wide>
     requires weights { All (λ part. pos 1 ≤ℤ part.weight) parts.now }
     requires places { All (λ part. v < length part.point.num) parts.now }
     ensures steps { result ≡ mean_steps total (map part_of parts.now) v }
-    ensures exact { IfOk result (λ f. IsSame f (over (weighted (map part_of parts.now) (λ x. value_of x v)) total)) }
+    ensures exact { IfOk result (λ f. IsSame f (over (weighted (map part_of parts.now)
+        (λ x. value_of x v)) total)) }
     ensures lowest { IfOk result IsLowest }
 {
     let mut sum = Frac::from(0);
@@ -56,7 +60,8 @@ fn share_of(part: &Part, total: i128, v: usize) -> Result<Frac, Wide>
     requires weight { pos 1 ≤ℤ part.now.weight }
     requires place { v < length part.now.point.num }
     ensures steps { result ≡ share total v (part_of part.now) }
-    ensures exact { IfOk result (λ f. IsSame f (times (ratio part.now.weight total) (value_of part.now.point v))) }
+    ensures exact { IfOk result (λ f. IsSame f (times (ratio part.now.weight total)
+        (value_of part.now.point v))) }
     ensures lowest { IfOk result IsLowest }
 {
     probability(part.weight, total).mul(part.point.value(v))

@@ -38,8 +38,10 @@ pub fn rest(game: &Game, i: u32, means: &[Frac]) -> Result<Frac, Wide>
 
 fn rest_sum(game: &Game, others: &[Other], means: &[Frac]) -> Result<Frac, Wide>
     requires { All (HasMeans (game_of game.now) means.now) others.now }
-    ensures steps { result ≡ sum_made (rest_term (game_of game.now) means.now) (whole (pos 0)) others.now }
-    ensures exact { IfOk result (λ f. IsSame f (sum_over others.now (other_at (mean_in (game_of game.now) means.now)))) }
+    ensures steps { result ≡ sum_made (rest_term (game_of game.now) means.now) (whole
+        (pos 0)) others.now }
+    ensures exact { IfOk result (λ f. IsSame f (sum_over others.now (other_at (mean_in
+        (game_of game.now) means.now)))) }
     ensures lowest { IfOk result IsLowest }
 {
     let mut sum = Frac::from(0);
@@ -54,7 +56,8 @@ fn rest_sum(game: &Game, others: &[Other], means: &[Frac]) -> Result<Frac, Wide>
 fn rest_product(game: &Game, t: &Other, means: &[Frac]) -> Result<Frac, Wide>
     requires { HasMeans (game_of game.now) means.now t.now }
     ensures steps { result ≡ rest_term (game_of game.now) means.now t.now }
-    ensures exact { IfOk result (λ f. IsSame f (other_at (mean_in (game_of game.now) means.now) t.now)) }
+    ensures exact { IfOk result (λ f. IsSame f (other_at (mean_in
+        (game_of game.now) means.now) t.now)) }
     ensures lowest { IfOk result IsLowest }
 {
     let first = Frac::from(t.coef).mul(mean_of(game, means, t.first))?;

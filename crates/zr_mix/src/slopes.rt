@@ -28,19 +28,28 @@ use zr_game::{CrossTerm, Game, Player};
 pub fn slope(game: &Game, i: u32, means: &[Frac], out: &mut [Frac]) -> Result<(), Wide>
     requires number { i < length (game_of game.now) }
     requires means { length means.now ≡ var_total (game_of game.now) }
-    requires places { (player : PlayerOf) → IsPlayer (game_of game.now) i player → length out.old ≡ length player.vars }
-    ensures steps { (player : PlayerOf) → IsPlayer (game_of game.now) i player → Writes (made_from (slope_steps (game_of game.now) player means.now) 0 (length out.old)) result out.new }
-    ensures at { (player : PlayerOf) → IsPlayer (game_of game.now) i player → OnOk result (AreReduced out.new (length out.old) (slope_at (game_of game.now) player means.now)) }
-    ensures exact { (player : PlayerOf) → IsPlayer (game_of game.now) i player → (profile : ProfileOf) → AreMeans (game_of game.now) profile means.now
+    requires places { (player : PlayerOf) → IsPlayer (game_of game.now) i player
+        → length out.old ≡ length player.vars }
+    ensures steps { (player : PlayerOf) → IsPlayer (game_of game.now) i player
+        → Writes (made_from (slope_steps (game_of game.now) player means.now) 0
+        (length out.old)) result out.new }
+    ensures at { (player : PlayerOf) → IsPlayer (game_of game.now) i player
+        → OnOk result (AreReduced out.new (length out.old) (slope_at
+        (game_of game.now) player means.now)) }
+    ensures exact { (player : PlayerOf) → IsPlayer (game_of game.now) i player
+        → (profile : ProfileOf) → AreMeans (game_of game.now) profile means.now
         → OnOk result (AreReduced out.new (length out.old) (slope_of player profile)) }
 {
     write_slope(game, &game.players[i as usize], means, out)
 }
 
 fn write_slope(game: &Game, player: &Player, means: &[Frac], out: &mut [Frac]) -> Result<(), Wide>
-    requires { All (λ t. HasMean (game_of game.now) means.now (t.player, t.var)) player.now.cross.items }
-    ensures steps { Writes (made_from (slope_steps (game_of game.now) (player_of player.now) means.now) 0 (length out.old)) result out.new }
-    ensures at { OnOk result (AreReduced out.new (length out.old) (slope_at (game_of game.now) (player_of player.now) means.now)) }
+    requires { All (λ t. HasMean (game_of game.now) means.now
+        (t.player, t.var)) player.now.cross.items }
+    ensures steps { Writes (made_from (slope_steps (game_of game.now)
+        (player_of player.now) means.now) 0 (length out.old)) result out.new }
+    ensures at { OnOk result (AreReduced out.new (length out.old) (slope_at (game_of game.now)
+        (player_of player.now) means.now)) }
 {
     for v in 0..out.len() {
         out[v] = slope_of_var(game, player, means, v)?;
@@ -49,9 +58,11 @@ fn write_slope(game: &Game, player: &Player, means: &[Frac], out: &mut [Frac]) -
 }
 
 fn slope_of_var(game: &Game, player: &Player, means: &[Frac], v: usize) -> Result<Frac, Wide>
-    requires { All (λ t. HasMean (game_of game.now) means.now (t.player, t.var)) player.now.cross.items }
+    requires { All (λ t. HasMean (game_of game.now) means.now
+        (t.player, t.var)) player.now.cross.items }
     ensures steps { result ≡ slope_steps (game_of game.now) (player_of player.now) means.now v }
-    ensures at { IfOk result (λ f. IsReduced f (slope_at (game_of game.now) (player_of player.now) means.now v)) }
+    ensures at { IfOk result (λ f. IsReduced f (slope_at (game_of game.now)
+        (player_of player.now) means.now v)) }
 {
     let own = Frac::from(number_at(player.cost.as_slice(), v));
     with_terms(own, &player.cross, v, game, means)
@@ -67,8 +78,10 @@ fn with_terms(
 ) -> Result<Frac, Wide>
     requires means { All (λ t. HasMean (game_of game.now) means.now (t.player, t.var)) cross.now }
     requires lowest { IsLowest start }
-    ensures steps { result ≡ sum_made (slope_term (game_of game.now) means.now) start (filter (λ t. t.own == v) cross.now) }
-    ensures exact { IfOk result (λ f. IsSame f (plus start (sum_over (filter (λ t. t.own == v) cross.now) (term_at (game_of game.now) means.now)))) }
+    ensures steps { result ≡ sum_made (slope_term (game_of game.now) means.now) start (filter
+        (λ t. t.own == v) cross.now) }
+    ensures exact { IfOk result (λ f. IsSame f (plus start (sum_over (filter
+        (λ t. t.own == v) cross.now) (term_at (game_of game.now) means.now)))) }
     ensures lowest { IfOk result IsLowest }
 {
     let mut sum = start;
@@ -82,8 +95,10 @@ fn with_terms(
 fn with_term(sum: Frac, t: &CrossTerm, v: usize, game: &Game, means: &[Frac]) -> Result<Frac, Wide>
     requires mean { HasMean (game_of game.now) means.now (t.now.player, t.now.var) }
     requires lowest { IsLowest sum }
-    ensures steps { result ≡ sum_made (slope_term (game_of game.now) means.now) sum (filter (λ t. t.own == v) (t.now ∷ [])) }
-    ensures exact { IfOk result (λ f. IsSame f (plus sum (sum_over (filter (λ t. t.own == v) (t.now ∷ [])) (term_at (game_of game.now) means.now)))) }
+    ensures steps { result ≡ sum_made (slope_term (game_of game.now) means.now) sum (filter
+        (λ t. t.own == v) (t.now ∷ [])) }
+    ensures exact { IfOk result (λ f. IsSame f (plus sum (sum_over (filter (λ t. t.own == v)
+        (t.now ∷ [])) (term_at (game_of game.now) means.now)))) }
     ensures lowest { IfOk result IsLowest }
 {
     if t.own as usize != v {

@@ -62,7 +62,8 @@ fn shared_term(own: u32, player: u32, coef: i64) -> CrossTerm {
 
 fn knapsack(alloc: Global) -> Result<Game, Fail>
     ensures players { IfOk result (λ game. length (game_of game) ≡ 2) }
-    ensures vars { IfOk result (λ game. (k : ℕ) (player : PlayerOf) → IsPlayer (game_of game) k player → length player.vars ≡ 2) }
+    ensures vars { IfOk result (λ game. (k : ℕ) (player : PlayerOf)
+        → IsPlayer (game_of game) k player → length player.vars ≡ 2) }
     ensures total { IfOk result (λ game. var_total (game_of game) ≡ 4) }
 {
     let first = packer(alloc, 1, [3, 4], [-1, -2], [2, 3], Vec::new(alloc))?;
@@ -114,8 +115,10 @@ fn strategy(alloc: Global, first: i128, second: i128, total: i128) -> Result<Str
     requires first { pos 1 ≤ℤ first }
     requires second { pos 1 ≤ℤ second }
     ensures total { IfOk result (λ strategy. strategy.total ≡ total) }
-    ensures weights { IfOk result (λ strategy. All (λ part. pos 1 ≤ℤ part.weight) (parts_of strategy)) }
-    ensures lengths { IfOk result (λ strategy. All (λ part. length part.point.num ≡ 2) (parts_of strategy)) }
+    ensures weights { IfOk result (λ strategy. All (λ part. pos 1 ≤ℤ part.weight)
+        (parts_of strategy)) }
+    ensures lengths { IfOk result (λ strategy. All (λ part. length part.point.num ≡ 2)
+        (parts_of strategy)) }
 {
     let parts = vec![in alloc; part(alloc, first, [1, 0])?, part(alloc, second, [0, 1])?]?;
     Ok(Strategy { total, parts })

@@ -13,9 +13,11 @@ use zr_base::{Frac, Wide};
 pub fn value(slope: &[Frac], mean: &[Frac]) -> Result<Frac, Wide>
     requires { length slope.now ≡ length mean.now }
     ensures steps { result ≡ value_steps slope.now mean.now }
-    ensures exact { IfOk result (λ f. IsSame f (sum_below (length slope.now) (λ v. times (item_of slope.now v) (item_of mean.now v)))) }
+    ensures exact { IfOk result (λ f. IsSame f (sum_below (length slope.now) (λ v. times
+        (item_of slope.now v) (item_of mean.now v)))) }
     ensures lowest { IfOk result IsLowest }
-    ensures along { (f g : ℕ → Fraction) → AreReduced slope.now (length slope.now) f → AreReduced mean.now (length slope.now) g
+    ensures along { (f g : ℕ → Fraction) → AreReduced slope.now (length slope.now) f
+        → AreReduced mean.now (length slope.now) g
         → IfOk result (λ r. IsReduced r (sum_below (length slope.now) (λ v. times (f v) (g v)))) }
 {
     let mut sum = Frac::from(0);

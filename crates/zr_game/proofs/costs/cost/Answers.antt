@@ -10,8 +10,11 @@ use Rattle.zr_game.proofs.Items.{found, one, read_below}
 use Rattle.zr_game.proofs.costs.cost.Goals as goal
 use Rattle.zr_game.proofs.costs.cost.Goals.{After-index-player}
 
-is_player : (c : After-index-player) → IsPlayer (game_of c.args.game.now) c.args.i (player_of c.index-player.result.now)
-is_player c = found player_of c.args.game.now.players.items c.args.i c.index-player.result.now (read_below player_of c.args.game.now.players.items c.args.i c.requires.number) c.index-player.ensures
+is_player : (c : After-index-player)
+    → IsPlayer (game_of c.args.game.now) c.args.i (player_of c.index-player.result.now)
+is_player c = found player_of c.args.game.now.players.items c.args.i c.index-player.result.now
+    (read_below player_of c.args.game.now.players.items c.args.i c.requires.number)
+    c.index-player.ensures
 
 pub player_cost-requires : goal.player_cost-requires
 player_cost-requires c =
@@ -34,7 +37,8 @@ returns-clause-exact c player is =
     let r = c.player_cost.result in
     let own = is_player ((goal.at.returns-clause-exact c).After-index-player) in
     let s = one game c.args.i (player_of c.index-player.result.now) player own is in
-    subst (λ (p : PlayerOf). IfOk r (λ f. IsSame f (cost_of p c.args.i points))) s c.player_cost.ensures.exact
+    subst (λ (p : PlayerOf). IfOk r (λ f. IsSame f (cost_of p c.args.i points))) s
+        c.player_cost.ensures.exact
 
 pub returns-clause-steps : goal.returns-clause-steps
 returns-clause-steps c player is =

@@ -18,5 +18,6 @@ returns-clause-exact c =
     let own = simp to_z-of_z at c.in_ok-first.ensures.exact in
     let first = subst (λ (p : PointOf). IsSame a (own_at (value_of p) (t.own, t.coef))) x own in
     let r = c.times_value_at.result in
-    let second = subst (λ (p : PointOf). IfOk r (λ f. IsSame f (times a (value_of p t.var)))) y c.times_value_at.ensures.exact in
+    let second = subst (λ (p : PointOf). IfOk r (λ f. IsSame f (times a (value_of p t.var)))) y
+        c.times_value_at.ensures.exact in
     both_exact c.args.i points t a r first second

@@ -9,12 +9,14 @@ use Rattle.zr_game.proofs.CostSums.{other_exact, other_made, point_is}
 use Rattle.zr_game.proofs.costs.other_product.Goals as goal
 use Rattle.zr_game.proofs.costs.other_product.Goals.{After-own_product, After-times_value_at}
 
-first_read : (c : After-own_product) → c.index-points-t.result ≡ point_of c.args.points.now c.args.t.now.first.0
+first_read : (c : After-own_product)
+    → c.index-points-t.result ≡ point_of c.args.points.now c.args.t.now.first.0
 first_read c =
     let t = c.args.t.now in
     point_is c.args.points.now t.first.0 c.index-points-t.result c.requires.0.0 c.index-points-t.is
 
-second_read : (c : After-times_value_at) → c.index-points-player.result ≡ point_of c.args.points.now c.in-Some.player
+second_read : (c : After-times_value_at)
+    → c.index-points-player.result ≡ point_of c.args.points.now c.in-Some.player
 second_read c =
     let x = c.index-points-player in
     let h = c.requires.1 (c.in-Some.player, c.in-Some.var) c.in-Some.is in
@@ -44,7 +46,8 @@ returns-in-Some-clause-steps c =
     let one = sym (subst (λ (p : PointOf). Ok first ≡ own_term p (t.first.1, t.coef)) x made) in
     let two = c.times_value_at.ensures.steps in
     let r = c.times_value_at.result in
-    subst (λ (p : PointOf). r ≡ times_value first p at.1) y two ∙ other_made t at first c.in-Some.is points one
+    subst (λ (p : PointOf). r ≡ times_value first p at.1) y two ∙
+        other_made t at first c.in-Some.is points one
 
 pub returns-in-Some-clause-exact : goal.returns-in-Some-clause-exact
 returns-in-Some-clause-exact c =
@@ -56,7 +59,9 @@ returns-in-Some-clause-exact c =
     let x = first_read ((goal.at.returns-in-Some-clause-exact c).After-own_product) in
     let y = second_read c in
     let same = simp to_z-of_z at c.in_ok-first.ensures.exact in
-    let one = subst (λ (p : PointOf). IsSame first (own_at (value_of p) (t.first.1, t.coef))) x same in
+    let one = subst (λ (p : PointOf). IsSame first (own_at (value_of p) (t.first.1, t.coef))) x same
+        in
     let r = c.times_value_at.result in
-    let two = subst (λ (p : PointOf). IfOk r (λ f. IsSame f (times first (value_of p at.1)))) y c.times_value_at.ensures.exact in
+    let two = subst (λ (p : PointOf). IfOk r (λ f. IsSame f (times first (value_of p at.1)))) y
+        c.times_value_at.ensures.exact in
     other_exact t at first c.in-Some.is (value_at_place points) r one two

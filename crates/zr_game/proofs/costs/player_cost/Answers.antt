@@ -14,7 +14,9 @@ read c =
     point_is c.args.points.now c.args.i c.index-points-i.result c.requires.here c.index-points-i.is
 
 -- the own terms were made
-own_made : (c : In_ok-own) → sum_made (own_term (point_of c.args.points.now c.args.i)) (whole (pos 0)) c.args.player.now.cost.items ≡ Ok c.in_ok-own.own
+own_made : (c : In_ok-own)
+    → sum_made (own_term (point_of c.args.points.now c.args.i)) (whole (pos 0))
+    c.args.player.now.cost.items ≡ Ok c.in_ok-own.own
 own_made c =
     let e = rw c.as_slice.ensures at c.in_ok-own.ensures.steps in
     let cost = c.args.player.now.cost.items in
@@ -30,13 +32,16 @@ own_sum-requires c =
     let i = c.args.i in
     let x = sym (point_is points i c.index-points-i.result c.requires.here c.index-points-i.is) in
     let cost = c.args.player.now.cost.items in
-    rw c.as_slice.ensures (subst (λ (p : PointOf). All (λ t. t.0 < length p.num) cost) x c.requires.own)
+    rw c.as_slice.ensures (subst (λ (p : PointOf). All (λ t. t.0 < length p.num) cost) x
+        c.requires.own)
 
 pub cross_sum-requires : goal.cross_sum-requires
-cross_sum-requires c = record { terms = rw c.deref.ensures.value c.requires.cross; lowest = c.in_ok-own.ensures.lowest }
+cross_sum-requires c = record { terms = rw c.deref.ensures.value c.requires.cross;
+    lowest = c.in_ok-own.ensures.lowest }
 
 pub other_sum-requires : goal.other_sum-requires
-other_sum-requires c = record { terms = rw c.deref-2.ensures.value c.requires.others; lowest = c.in_ok-crossed.ensures.lowest }
+other_sum-requires c = record { terms = rw c.deref-2.ensures.value c.requires.others;
+    lowest = c.in_ok-crossed.ensures.lowest }
 
 pub returns-in_err-own : goal.returns-in_err-own
 returns-in_err-own c =
@@ -44,9 +49,11 @@ returns-in_err-own c =
     let x = read ((goal.at.returns-in_err-own c).After-own_sum) in
     let cost = c.args.player.now.cost.items in
     let w = c.in_err-own.field-0.0 in
-    let e = subst (λ (p : PointOf). Err w ≡ sum_made (own_term p) (whole (pos 0)) cost) x (rw c.as_slice.ensures at c.in_err-own.ensures.steps) in
+    let e = subst (λ (p : PointOf). Err w ≡ sum_made (own_term p) (whole (pos 0)) cost) x
+        (rw c.as_slice.ensures at c.in_err-own.ensures.steps) in
     record {
-      steps = rw (p.1, p.2) (own_wide (player_of c.args.player.now) c.args.i c.args.points.now w (sym e));
+      steps = rw (p.1, p.2) (own_wide (player_of c.args.player.now) c.args.i c.args.points.now w
+          (sym e));
       exact = rw p.1 tt;
       lowest = rw p.1 tt;
     }
@@ -59,7 +66,8 @@ returns-in_err-crossed c =
     let first = own_made ((goal.at.returns-in_err-crossed c).In_ok-own) in
     let second = sym (rw c.deref.ensures.value at c.in_err-crossed.ensures.steps) in
     record {
-      steps = rw (p.1, p.2) (cross_wide (player_of c.args.player.now) c.args.i c.args.points.now own first c.in_err-crossed.field-0.0 second);
+      steps = rw (p.1, p.2) (cross_wide (player_of c.args.player.now) c.args.i c.args.points.now own
+          first c.in_err-crossed.field-0.0 second);
       exact = rw p.1 tt;
       lowest = rw p.1 tt;
     }
@@ -73,7 +81,8 @@ returns c =
     let first = own_made ((goal.at.returns c).In_ok-own) in
     let x = read ((goal.at.returns c).After-own_sum) in
     let terms = rw c.as_slice.ensures at c.in_ok-own.ensures.exact in
-    let same = subst (λ (p : PointOf). IsSame own (sum_over player.cost (own_at (value_of p)))) x terms in
+    let same = subst (λ (p : PointOf). IsSame own (sum_over player.cost (own_at (value_of p)))) x
+        terms in
     let second = sym (rw c.deref.ensures.value at c.in_ok-crossed.ensures.steps) in
     let both = rw c.deref.ensures.value at c.in_ok-crossed.ensures.exact in
     let made = rw c.deref-2.ensures.value at c.other_sum.ensures.steps in

@@ -20,7 +20,9 @@ stepped c =
     let b : FitsSigned w128 c.divided.result = search rules in
     simp to_z-of_z at c.cross.ensures
 
-by_is : (c : After-cross) → c.divided.result ≡ int_div c.args.f.den (pos (gcd_of (unsigned_abs c.args.m) (unsigned_abs c.args.f.den)))
+by_is : (c : After-cross)
+    → c.divided.result ≡ int_div c.args.f.den
+    (pos (gcd_of (unsigned_abs c.args.m) (unsigned_abs c.args.f.den)))
 by_is c =
     let m : FitsSigned w128 c.args.m = search rules in
     let s : FitsSigned w128 c.common-shared.result = search rules in
@@ -32,7 +34,8 @@ by_is c =
 pub returns-clause-steps : goal.returns-clause-steps
 returns-clause-steps c =
     let at = goal.at.returns-clause-steps c in
-    stepped at.After-cross ∙ ap (λ (b : ℤ). cross_of (c.args.m, b) (pos 0, pos 0)) (by_is at.After-cross) ∙ step_only c.args.m c.args.f
+    stepped at.After-cross ∙ ap (λ (b : ℤ). cross_of (c.args.m, b) (pos 0, pos 0))
+        (by_is at.After-cross) ∙ step_only c.args.m c.args.f
 
 pub returns-clause-exact : goal.returns-clause-exact
 returns-clause-exact c =
@@ -43,4 +46,5 @@ returns-clause-exact c =
     let left = rw c.den-den.ensures.value at (simp to_z-of_z at c.divided.ensures.exact) in
     let gcd = rw c.den-den.ensures.value at (simp to_z-of_z at c.common-shared.ensures.gcd) in
     let below = rw c.den-den.ensures.value at c.den-den.ensures.positive in
-    step_lcm c.args.m c.args.f c.divided.result c.common-shared.result c.requires below c.common-shared.ensures.positive left gcd c.cross.result (stepped at.After-cross)
+    step_lcm c.args.m c.args.f c.divided.result c.common-shared.result c.requires below
+        c.common-shared.ensures.positive left gcd c.cross.result (stepped at.After-cross)

@@ -15,4 +15,5 @@ returns-clause-exact c =
     let w = ratio c.args.part.now.weight c.args.total in
     let x = value_of c.args.part.now.point c.args.v in
     let same = simp to_z-of_z at c.probability.ensures.same in
-    if_is_same c.mul.result (times p q) (times w x) (times_same p q w x same c.value.ensures.same) c.mul.ensures.exact
+    if_is_same c.mul.result (times p q) (times w x) (times_same p q w x same c.value.ensures.same)
+        c.mul.ensures.exact
