@@ -67,8 +67,7 @@ pub record IsLonger (p : Program) (run : Run p) (new : Stage p) (next : Run p) :
 pub by_dual : (p : Program) (run : Run p) → run.pivots < run.turn → (new : Stage p) → IsDualStep p (end_of p run) new → (next : Run p) × IsLonger p run new next × (next.pivots < next.turn)
 by_dual p run before new step =
     let later = turn_later p run.turn (suc (suc run.pivots)) run.pivots run.stage run.follows before (omega arith) in
-    let follows = more_dual p run.pivots (suc (suc run.pivots)) run.stage later (omega arith) new step in
-    (
+    let follows = more_dual p run.pivots (suc (suc run.pivots)) run.stage later (omega arith) new step in (
       record {
         pivots = suc run.pivots;
         turn = suc (suc run.pivots);
@@ -90,8 +89,7 @@ turn_here p run before feasible = record {
 
 pub by_primal : (p : Program) (run : Run p) → run.turn ≤ run.pivots → (new : Stage p) → IsPrimalStep p (turn_of p run) (end_of p run) new → (next : Run p) × IsLonger p run new next × (next.turn ≤ next.pivots) × (turn_of p next ≡ turn_of p run)
 by_primal p run after new step =
-    let follows = more_primal p run.pivots run.turn run.stage run.follows after new step in
-    (
+    let follows = more_primal p run.pivots run.turn run.stage run.follows after new step in (
       record {
         pivots = suc run.pivots;
         turn = run.turn;

@@ -1,9 +1,8 @@
 -- The row that leaves and the column that enters, found one after the other.
-use Rattle.std.proofs.Common.{◌≡◌, ◌≢◌, ℕ, ◌+◌, ◌<◌, ◌≤◌, arith, refl, ap, Option, None, Some, MatchOption, ℤ, pos, ◌-ℤ◌, ◌*ℤ◌, ◌<ℤ◌, ◌≤ℤ◌, ◌⊎◌, inl, inr, ⊎_elim}
+use Rattle.std.proofs.Common.{◌≡◌, ℕ, ◌+◌, ◌<◌, ◌≤◌, arith, refl, ap, Option, None, Some, MatchOption, ℤ, pos, ◌-ℤ◌, ◌*ℤ◌, ◌<ℤ◌, ◌≤ℤ◌, ◌⊎◌, ⊎_elim}
 use Rattle.std.proofs.lemmas.Int.{ints}
 use Rattle.zr_basis.specs.Programs.{Program}
 use Rattle.zr_basis.specs.BasicForms.{right_column, value_column, IsBasicForm}
-use Rattle.zr_basis.specs.Vectors.{IsLeading, IsLower}
 use Rattle.zr_basis.specs.Primal.{vector, place, IsRowBelow, IsPrimalDue}
 use Rattle.zr_basis.specs.Dual.{IsRayBelow, IsDualDue}
 use Rattle.zr_basis.proofs.Signs.{side, sign}
