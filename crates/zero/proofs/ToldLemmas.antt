@@ -130,7 +130,7 @@ game_of_text bytes game stands = (game_is_right stands.value game stands.content
 -- ---- the game that is told
 
 module _ (words : Words) (contents : Contents) (bytes : Bytes)
-  (told : IsToldGame words contents bytes) where
+    (told : IsToldGame words contents bytes) where
   -- the game text that was read is the one that was told
   game_read : (name read : Bytes) → IsGameName words name → IsContent contents name read → bytes ≡ read
   game_read name read named content =
@@ -260,7 +260,7 @@ flawed_apart game form bytes within number Wide h c right =
 -- ---- the check of what is told
 
 module _ (words : Words) (contents : Contents) (game : GameOf) (bytes : Bytes)
-  (told : IsToldCheck words contents game bytes) where
+    (told : IsToldCheck words contents game bytes) where
   told_game : IsToldGame words contents told.game_bytes
   told_game = record { name = told.game_name; named = inr (told.cert_name, told.check); told = told.game_told }
 

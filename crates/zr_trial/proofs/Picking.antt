@@ -62,14 +62,14 @@ same_plus a b f g p q = plus_plain a b f.num f.den g.num g.den p q
 
 -- without terms in the others' variables nothing is added
 pub no_rest : (player : PlayerOf) (value : ℕ × ℕ → Fraction) (z : ℤ) (f : Fraction) →
-  player.others ≡ [] → HaveSameCross (whole z) f →
-  HaveSameCross (whole z) (plus f (rest_at player value))
+    player.others ≡ [] → HaveSameCross (whole z) f →
+    HaveSameCross (whole z) (plus f (rest_at player value))
 no_rest player value z f none h =
     let nothing : HaveSameCross (whole (pos 0)) (whole (pos 0)) = omega (arith, ints) in
     let zero : z +ℤ pos 0 ≡ z = omega (arith, ints) in
     let sum = same_plus z (pos 0) f (whole (pos 0)) h nothing in
     let same : HaveSameCross (whole z) (plus f (whole (pos 0))) =
-      subst (λ y. HaveSameCross (whole y) (plus f (whole (pos 0)))) zero sum
-      in
+    subst (λ y. HaveSameCross (whole y) (plus f (whole (pos 0)))) zero sum
+    in
     subst (λ (ts : List Other). HaveSameCross (whole z) (plus f (sum_over ts (other_at value))))
-      (sym none) same
+    (sym none) same

@@ -17,11 +17,11 @@ player_below (p ∷ game) (suc i) player e = let r = player_below game i player 
 
 -- what reach says of a player
 pub plain_of : (game : GameOf) (i : ℕ) (player : PlayerOf) → IsWithinReach game →
-  IsPlayer game i player → IsPlainPlayer player
+    IsPlayer game i player → IsPlainPlayer player
 plain_of game i player reach is =
     let e = get_or_from_slice_get game i player player is in
     subst IsPlainPlayer e (reach.plain i player (player_below game i player is))
 
 pub bounded_of : (game : GameOf) (i : ℕ) (player : PlayerOf) → IsWithinReach game →
-  IsPlayer game i player → All IsBoundedWhole player.vars
+    IsPlayer game i player → All IsBoundedWhole player.vars
 bounded_of game i player reach is = (plain_of game i player reach is).vars

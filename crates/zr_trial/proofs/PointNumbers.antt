@@ -92,7 +92,7 @@ within_count (Some up) z some low high =
     omega (arith, ints, h, low)
 
 at_least : (low : Option ℤ) (z : ℤ) → low ≡ Some (pos 0) → IfSome low (λ b. (b *ℤ pos 1) ≤ℤ z) →
-  (pos 0) ≤ℤ z
+    (pos 0) ≤ℤ z
 at_least None z e h = absurd cc
 at_least (Some b) z e h =
     let zero : b ≡ pos 0 = cc in

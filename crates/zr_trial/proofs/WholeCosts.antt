@@ -61,45 +61,45 @@ num_at ys at = num_of (point_of ys at.0) at.1
 
 abbrev other_num : List PointOf → Other → ℤ
 other_num ys t =
-  let one = t.coef *ℤ num_at ys t.first in
-  option_map_or (λ at. one *ℤ num_at ys at) t.second one
+    let one = t.coef *ℤ num_at ys t.first in
+    option_map_or (λ at. one *ℤ num_at ys at) t.second one
 
 abbrev rest_sum : List Other → List PointOf → ℤ
 rest_sum terms ys = sum_list terms (other_num ys)
 
 second_worth : (xs ys : List PointOf) → AreWholeAt xs ys → (f : Fraction) (n : ℤ) →
-  Worth (pos 1) f n → (second : Option (ℕ × ℕ)) →
-  Worth (pos 1) (option_map_or (λ at. times f (value_at_place xs at)) second f)
+    Worth (pos 1) f n → (second : Option (ℕ × ℕ)) →
+    Worth (pos 1) (option_map_or (λ at. times f (value_at_place xs at)) second f)
     (option_map_or (λ at. n *ℤ num_at ys at) second n)
 second_worth xs ys is f n w None = w
 second_worth xs ys is f n w (Some at) =
-  worth-times (pos 1) (pos 1) f (value_at_place xs at) n (num_at ys at) w (is at.0 at.1)
+    worth-times (pos 1) (pos 1) f (value_at_place xs at) n (num_at ys at) w (is at.0 at.1)
 
 other_worth : (xs ys : List PointOf) → AreWholeAt xs ys → (t : Other) →
-  Worth (pos 1) (other_at (value_at_place xs) t) (other_num ys t)
+    Worth (pos 1) (other_at (value_at_place xs) t) (other_num ys t)
 other_worth xs ys is t =
-  let value = value_at_place xs t.first in
-  let one = worth-multiple (pos 1) t.coef value (num_at ys t.first) (is t.first.0 t.first.1) in
-  second_worth xs ys is (times (whole t.coef) value) (t.coef *ℤ num_at ys t.first) one t.second
+    let value = value_at_place xs t.first in
+    let one = worth-multiple (pos 1) t.coef value (num_at ys t.first) (is t.first.0 t.first.1) in
+    second_worth xs ys is (times (whole t.coef) value) (t.coef *ℤ num_at ys t.first) one t.second
 
 rest_worth : (terms : List Other) (xs ys : List PointOf) → AreWholeAt xs ys →
-  Worth (pos 1) (sum_over terms (other_at (value_at_place xs))) (rest_sum terms ys)
+    Worth (pos 1) (sum_over terms (other_at (value_at_place xs))) (rest_sum terms ys)
 rest_worth terms xs ys is =
-  worth-sum_over (pos 1) terms (other_at (value_at_place xs)) (other_num ys) (other_worth xs ys is)
+    worth-sum_over (pos 1) terms (other_at (value_at_place xs)) (other_num ys) (other_worth xs ys is)
 
 -- a player's cost as a whole number
 abbrev pub whole_cost : PlayerOf → ℕ → List PointOf → ℤ
 whole_cost player i ys =
-  (own_sum player.cost (point_of ys i) +ℤ cross_sum player.cross i ys) +ℤ rest_sum player.others ys
+    (own_sum player.cost (point_of ys i) +ℤ cross_sum player.cross i ys) +ℤ rest_sum player.others ys
 
 pub cost_worth : (player : PlayerOf) (i : ℕ) (xs ys : List PointOf) → AreWholeAt xs ys → Worth (pos 1) (cost_of player i xs) (whole_cost player i ys)
 cost_worth player i xs ys at =
     let own = sum_over player.cost (λ t. times (whole t.1) (value_of (point_of xs i) t.0)) in
     let value = value_of (point_of xs i) in
     let cross =
-      sum_over player.cross
-        (λ t. times (whole t.coef) (times (value t.own) (value_of (point_of xs t.player) t.var)))
-      in
+    sum_over player.cross
+    (λ t. times (whole t.coef) (times (value t.own) (value_of (point_of xs t.player) t.var)))
+    in
     let own_num = own_sum player.cost (point_of ys i) in
     let cross_num = cross_sum player.cross i ys in
     let own_is = own_worth player.cost (point_of xs i) (point_of ys i) (at i) in
@@ -108,7 +108,7 @@ cost_worth player i xs ys at =
     let rest = rest_at player (value_at_place xs) in
     let rest_is = rest_worth player.others xs ys at in
     worth-plus (pos 1) (plus own cross) rest (own_num +ℤ cross_num) (rest_sum player.others ys) both
-      rest_is
+    rest_is
 
 -- a whole point is its own whole point
 pub whole_at : (x : PointOf) → x.den ≡ pos 1 → IsWholeAt x x

@@ -37,8 +37,7 @@ returns-in-Err-next_due-clause-few c =
     let p = program_of c.args.lp.now in
     let t = c.pivots.tableau in
     let n = number_of c.pivots.count.items in
-    let state = c.pivots.invariant.going in
-    (
+    let state = c.pivots.invariant.going in (
       n,
       going_few c.pivots.start (λ kept. kept.items) p c.args.purse.now c.pivots.purse n (basis_of t) (form_of t) state,
       going_counts c.pivots.start (λ kept. kept.items) p c.args.purse.now c.pivots.purse n (basis_of t) (form_of t) state,

@@ -12,5 +12,5 @@ value_count-requires c =
     record {
       form = item var_of IsVarForm c.args.vars.now at c.var-item.result c.requires.forms below is;
       bounded =
-        item var_of IsBoundedWhole c.args.vars.now at c.var-item.result c.requires.bounded below is;
+          item var_of IsBoundedWhole c.args.vars.now at c.var-item.result c.requires.bounded below is;
     }

@@ -67,6 +67,6 @@ returns c player is =
     let sum = c.own_cost-own.result +ℤ c.cross_cost.result in
     let two = same_plus c.own_cost-own.result c.cross_cost.result _ _ own cross in
     let both : HaveSameCross (whole sum) (cost_of here c.args.i points) =
-      no_rest here (value_at_place points) sum _ plain.others two
-      in
+    no_rest here (value_at_place points) sum _ plain.others two
+    in
     simp to_z-of_z (subst (λ (p : PlayerOf). HaveSameCross (whole (c.own_cost-own.result +ℤ c.cross_cost.result)) (cost_of p c.args.i points)) s both)
