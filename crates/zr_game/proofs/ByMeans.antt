@@ -44,7 +44,7 @@ pub totals_positive : (profile : Profile) → ((j : ℕ) → j < length profile
 totals_positive [] h = omega (arith, ints)
 totals_positive (s ∷ ss) h =
     mul_positive (total s) (totals ss) (h zero (omega arith))
-        (totals_positive ss (λ j p. h (suc j) (omega arith)))
+    (totals_positive ss (λ j p. h (suc j) (omega arith)))
 
 swap_scale : (a b c e d : ℤ) → a *ℤ c ≡ b *ℤ e → b *ℤ (d *ℤ e) ≡ a *ℤ (d *ℤ c)
 swap_scale a b c e d h = let m = simp spread at (ap (λ x. d *ℤ x) h) in
@@ -62,7 +62,7 @@ tuples-multiple : (profile : Profile) (m : ℤ) (f : List PointOf → ℤ)
     → tuples profile (λ t. m *ℤ f t) ≡ m *ℤ tuples profile f
 tuples-multiple profile m f =
     tuples_same profile (λ t. m *ℤ f t) (λ t. f t *ℤ m) (λ t. simp spread refl) ∙
-        tuples-mul profile m f ∙ turn (tuples profile f)
+    tuples-mul profile m f ∙ turn (tuples profile f)
   where
     turn : (a : ℤ) → a *ℤ m ≡ m *ℤ a
     turn a = simp spread refl
@@ -79,7 +79,7 @@ mean_num profile d j v = tuples profile (λ points. num_over d (point_of points 
 abbrev pub slope_num : PlayerOf → Profile → ℤ → ℕ → ℤ
 slope_num player profile d v =
     coef_at player.cost v *ℤ (d *ℤ totals profile) +ℤ sum_list
-        (filter (λ t. t.own == v) player.cross) (λ t. t.coef *ℤ mean_num profile d t.player t.var)
+    (filter (λ t. t.own == v) player.cross) (λ t. t.coef *ℤ mean_num profile d t.player t.var)
 
 -- the sum over all tuples of the variable at a place
 abbrev pub mean_place : Profile → ℤ → ℕ × ℕ → ℤ
@@ -117,11 +117,11 @@ module _ (player : PlayerOf) (i columns : ℕ) (profile : Profile) (d : ℤ) (po
       let n = weigh s num in
       let m = mean_num profile d j v in
       let sum = worth-weighted d d s value num (λ x o. worth-value d x v o)
-          (shared_strategy d profile j shared) in
+      (shared_strategy d profile j shared) in
       let divided = worth-over d t (weighted s value) n (full j h) sum in
       let scales = swap_scale m n t (totals profile) d (alone profile j num h) in
       worth-rescale (d *ℤ t) (d *ℤ totals profile) (mean s v) n m
-          (mul_positive d t positive (full j h)) scales divided
+      (mul_positive d t positive (full j h)) scales divided
 
   pub mean_positive : (j v : ℕ) → j < length profile
       → (pos 0) <ℤ (mean (strategy_of profile j) v).den
@@ -133,15 +133,15 @@ module _ (player : PlayerOf) (i columns : ℕ) (profile : Profile) (d : ℤ) (po
       let s = d *ℤ totals profile in
       let ts = filter (λ t. t.own == v) player.cross in
       let value = λ (t : CrossTerm). times (whole t.coef)
-          (mean (strategy_of profile t.player) t.var) in
+      (mean (strategy_of profile t.player) t.var) in
       let num = λ (t : CrossTerm). t.coef *ℤ mean_num profile d t.player t.var in
       let one = λ (t : CrossTerm) (form : IsCross i columns (length profile) t). worth-multiple s
-          t.coef (mean (strategy_of profile t.player) t.var) (mean_num profile d t.player t.var)
-          (worth-mean t.player t.var form.player) in
+      t.coef (mean (strategy_of profile t.player) t.var) (mean_num profile d t.player t.var)
+      (worth-mean t.player t.var form.player) in
       let all = each_filter (IsCross i columns (length profile)) (λ t. t.own == v) player.cross
-          cross_form in
+      cross_form in
       worth-plus s _ _ _ _ (worth-whole s (coef_at player.cost v))
-          (worth-sum s (IsCross i columns (length profile)) ts value num one all)
+      (worth-sum s (IsCross i columns (length profile)) ts value num one all)
 
   pub slope_positive : (v : ℕ) → (pos 0) <ℤ (slope player profile v).den
   slope_positive v = (worth-slope v).below
@@ -155,10 +155,10 @@ module _ (player : PlayerOf) (i columns : ℕ) (profile : Profile) (d : ℤ) (po
       let value = mean_at_place profile in
       let num = mean_place profile d in
       let one = λ (t : Other) (form : IsOther i (length profile) t). worth-other s value num t
-          (worth-mean t.first.0 t.first.1 form.first.player)
-          (λ at e. worth-mean at.0 at.1 (form.second at e).player) in
+      (worth-mean t.first.0 t.first.1 form.first.player)
+      (λ at e. worth-mean at.0 at.1 (form.second at e).player) in
       worth-sum (s *ℤ s) (IsOther i (length profile)) player.others (other_at value)
-          (other_num s num) one other_form
+      (other_num s num) one other_form
 
   pub rest_positive : (pos 0) <ℤ (rest player profile).den
   rest_positive = worth-rest.below
@@ -170,7 +170,7 @@ module _ (player : PlayerOf) (i columns : ℕ) (profile : Profile) (d : ℤ) (po
       let num = cost_num player i d in
       let sum = worth-tuples (d *ℤ d) d profile cost num (worth-cost player i d) shared in
       worth-over (d *ℤ d) (totals profile) (tuple_sum profile cost) (tuples profile num)
-          (totals_positive profile full) sum
+      (totals_positive profile full) sum
 
   pub expected_positive : (pos 0) <ℤ (expected_cost player i profile).den
   expected_positive = worth-expected.below
@@ -180,18 +180,18 @@ module _ (player : PlayerOf) (i columns : ℕ) (profile : Profile) (d : ℤ) (po
   own_part =
       let all = totals profile in
       let f = λ (t : ℕ × ℤ) (points : List PointOf).
-          (t.1 *ℤ num_over d (point_of points i) t.0) *ℤ d in
+      (t.1 *ℤ num_over d (point_of points i) t.0) *ℤ d in
       let g = λ (t : ℕ × ℤ). (t.1 *ℤ mean_num profile d i t.0) *ℤ d in
       let h = λ (t : ℕ × ℤ). t.1 *ℤ ((d *ℤ all) *ℤ mean_num profile d i t.0) in
       let one = λ (t : ℕ × ℤ). tuples-mul profile d
-          (λ points. t.1 *ℤ num_over d (point_of points i) t.0) ∙
-          ap (λ a. a *ℤ d) (tuples-multiple profile t.1
-          (λ points. num_over d (point_of points i) t.0)) in
+      (λ points. t.1 *ℤ num_over d (point_of points i) t.0) ∙
+      ap (λ a. a *ℤ d) (tuples-multiple profile t.1
+      (λ points. num_over d (point_of points i) t.0)) in
       let apiece = tuples-sum profile player.cost f ∙
-          sum_list_same player.cost (λ t. tuples profile (f t)) g one in
+      sum_list_same player.cost (λ t. tuples profile (f t)) g one in
       let shift = λ (t : ℕ × ℤ). sym (own_shift t.1 (mean_num profile d i t.0) d all) in
       ap (λ a. a *ℤ all) apiece ∙ sym (sum_list-mul player.cost all g) ∙
-          sum_list_same player.cost (λ t. g t *ℤ all) h shift
+      sum_list_same player.cost (λ t. g t *ℤ all) h shift
 
   -- the product of two players' variables
   pair_is : (j k v w : ℕ) → j ≢ k → j < length profile → k < length profile
@@ -201,34 +201,34 @@ module _ (player : PlayerOf) (i columns : ℕ) (profile : Profile) (d : ℤ) (po
       let a = λ (x : PointOf). num_over d x v in
       let b = λ (x : PointOf). num_over d x w in
       let p = tuples profile (λ points. num_over d (point_of points j) v *ℤ num_over d
-          (point_of points k) w) in
+      (point_of points k) w) in
       let s = strategy_of profile j in
       let t = strategy_of profile k in
       let both = mul_positive (total s) (total t) (full j below) (full k within) in
       independent p (mean_num profile d j v) (mean_num profile d k w) (total s) (total t)
-          (weigh s a) (weigh t b) (totals profile) both (alone profile j a below)
-          (alone profile k b within) (apart profile j k a b differ below within)
+      (weigh s a) (weigh t b) (totals profile) both (alone profile j a below)
+      (alone profile k b within) (apart profile j k a b differ below within)
 
   cross_part : tuples profile (cross_nums player i d) *ℤ totals profile ≡ sum_list player.cross
       (λ t. (t.coef *ℤ mean_num profile d t.player t.var) *ℤ mean_num profile d i t.own)
   cross_part =
       let all = totals profile in
       let pair = λ (t : CrossTerm) (points : List PointOf). num_over d (point_of points i)
-          t.own *ℤ num_over d (point_of points t.player) t.var in
+      t.own *ℤ num_over d (point_of points t.player) t.var in
       let f = λ (t : CrossTerm) (points : List PointOf). t.coef *ℤ pair t points in
       let g = λ (t : CrossTerm). t.coef *ℤ tuples profile (pair t) in
       let h = λ (t : CrossTerm). (t.coef *ℤ mean_num profile d t.player t.var) *ℤ mean_num profile d
-          i t.own in
+      i t.own in
       let one = λ (t : CrossTerm). tuples-multiple profile t.coef (pair t) in
       let apiece = tuples-sum profile player.cross f ∙
-          sum_list_same player.cross (λ t. tuples profile (f t)) g one in
+      sum_list_same player.cross (λ t. tuples profile (f t)) g one in
       let shift = λ (t : CrossTerm) (form : IsCross i columns (length profile) t).
-          sym (cross_shift t.coef (mean_num profile d t.player t.var) (mean_num profile d i t.own)
-          (tuples profile (pair t)) all (pair_is i t.player t.own t.var (λ e. form.apart (sym e))
-          here form.player)) in
+      sym (cross_shift t.coef (mean_num profile d t.player t.var) (mean_num profile d i t.own)
+      (tuples profile (pair t)) all (pair_is i t.player t.own t.var (λ e. form.apart (sym e))
+      here form.player)) in
       ap (λ a. a *ℤ all) apiece ∙ sym (sum_list-mul player.cross all g) ∙
-          sum_list_same_each (IsCross i columns (length profile)) player.cross (λ t. g t *ℤ all) h
-          shift cross_form
+      sum_list_same_each (IsCross i columns (length profile)) player.cross (λ t. g t *ℤ all) h
+      shift cross_form
 
   -- a term in the others' variables alone
   other_is : (t : Other) → IsOther i (length profile) t
@@ -250,18 +250,18 @@ module _ (player : PlayerOf) (i columns : ℕ) (profile : Profile) (d : ℤ) (po
       on None far differ =
           let times_d = tuples-mul profile d (λ points. t.coef *ℤ place_num d points t.first) in
           ap (λ a. a *ℤ totals profile) (times_d ∙ ap (λ a. a *ℤ d) one) ∙
-              mul_assoc (t.coef *ℤ mean_place profile d t.first) d (totals profile)
+          mul_assoc (t.coef *ℤ mean_place profile d t.first) d (totals profile)
       on (Some at) far differ =
           let f = λ (points : List PointOf). place_num d points t.first in
           let g = λ (points : List PointOf). place_num d points at in
           let pair = λ (points : List PointOf). f points *ℤ g points in
           let regroup = tuples_same profile (λ points. (t.coef *ℤ f points) *ℤ g points)
-              (λ points. t.coef *ℤ pair points) (λ points. mul_assoc t.coef (f points) (g points))
-              in
+          (λ points. t.coef *ℤ pair points) (λ points. mul_assoc t.coef (f points) (g points))
+          in
           let product = pair_is t.first.0 at.0 t.first.1 at.1 (differ at refl) form.first.player
-              (far at refl).player in
+          (far at refl).player in
           let shift = two_shift t.coef (mean_place profile d t.first) (mean_place profile d at)
-              (tuples profile pair) (totals profile) product in
+          (tuples profile pair) (totals profile) product in
           ap (λ a. a *ℤ totals profile) (regroup ∙ tuples-multiple profile t.coef pair) ∙ shift
 
   other_part : tuples profile (other_nums player d) *ℤ totals profile ≡ rest_num
@@ -272,8 +272,8 @@ module _ (player : PlayerOf) (i columns : ℕ) (profile : Profile) (d : ℤ) (po
       let h = other_num (d *ℤ all) (mean_place profile d) in
       let apiece = tuples-sum profile player.others f in
       ap (λ a. a *ℤ all) apiece ∙ sym (sum_list-mul player.others all g) ∙
-          sum_list_same_each (IsOther i (length profile)) player.others (λ t. g t *ℤ all) h other_is
-          other_form
+      sum_list_same_each (IsOther i (length profile)) player.others (λ t. g t *ℤ all) h other_is
+      other_form
 
   -- the own and the cross terms, regrouped by own variable
   regroup : sum_to columns (λ v. slope_num player profile d v *ℤ mean_num profile d i v) ≡
@@ -288,11 +288,11 @@ module _ (player : PlayerOf) (i columns : ℕ) (profile : Profile) (d : ℤ) (po
       let own = λ (v : ℕ). coef_at player.cost v *ℤ m in
       let cross = λ (v : ℕ). sum_list (filter (λ t. t.own == v) player.cross) h in
       let split = sum_to_same columns (λ v. slope_num player profile d v *ℤ e v)
-          (λ v. own v *ℤ e v +ℤ cross v *ℤ e v) (λ v p. mul-add_right (own v) (cross v) (e v)) in
+      (λ v. own v *ℤ e v +ℤ cross v *ℤ e v) (λ v p. mul-add_right (own v) (cross v) (e v)) in
       let sums = sum_to-add columns (λ v. own v *ℤ e v) (λ v. cross v *ℤ e v) in
       let owns = own_columns columns player.cost m e cost_form ∙ sym own_part in
       let all = each_weaker (IsCross i columns (length profile)) (λ t. t.own < columns) player.cross
-          (λ t form. form.own) cross_form in
+      (λ t form. form.own) cross_form in
       let crosses = cross_columns columns player.cross h e all ∙ sym cross_part in
       split ∙ sums ∙ ap₂ ◌+ℤ◌ owns crosses ∙ sym (mul-add_right a b (totals profile))
 
@@ -304,10 +304,10 @@ module _ (player : PlayerOf) (i columns : ℕ) (profile : Profile) (d : ℤ) (po
       let other = other_nums player d in
       let first = tuples profile own +ℤ tuples profile cross in
       let together = tuples-add profile (λ points. own points +ℤ cross points) other ∙
-          ap (λ a. a +ℤ tuples profile other) (tuples-add profile own cross) in
+      ap (λ a. a +ℤ tuples profile other) (tuples-add profile own cross) in
       ap₂ ◌+ℤ◌ regroup (sym other_part) ∙
-          sym (mul-add_right first (tuples profile other) (totals profile)) ∙
-          ap (λ x. x *ℤ totals profile) (sym together)
+      sym (mul-add_right first (tuples profile other) (totals profile)) ∙
+      ap (λ x. x *ℤ totals profile) (sym together)
 
   module _ (f : ℕ → Fraction) (positive_f : (v : ℕ) → v < columns
       → (pos 0) <ℤ (f v).den) (same : (v : ℕ) → v < columns
@@ -322,9 +322,9 @@ module _ (player : PlayerOf) (i columns : ℕ) (profile : Profile) (d : ℤ) (po
         let value = λ (v : ℕ). times (slope player profile v) (f v) in
         let num = λ (v : ℕ). slope_num player profile d v *ℤ mean_num profile d i v in
         let of_f = λ (v : ℕ) (h : v < columns). worth_of_same s (mean (strategy_of profile i) v)
-            (f v) (mean_num profile d i v) (positive_f v h) (same v h) (worth-mean i v here) in
+        (f v) (mean_num profile d i v) (positive_f v h) (same v h) (worth-mean i v here) in
         let one = λ (v : ℕ) (h : v < columns). worth-times s s (slope player profile v) (f v)
-            (slope_num player profile d v) (mean_num profile d i v) (worth-slope v) (of_f v h) in
+        (slope_num player profile d v) (mean_num profile d i v) (worth-slope v) (of_f v h) in
         worth-below (s *ℤ s) columns value num one
 
     pub by_means : IsSame (expected_cost player i profile)
@@ -335,9 +335,9 @@ module _ (player : PlayerOf) (i columns : ℕ) (profile : Profile) (d : ℤ) (po
         let s = d *ℤ t in
         let m = sum_to columns (λ v. slope_num player profile d v *ℤ mean_num profile d i v) in
         let squared = mul_positive (d *ℤ d) t (mul_positive d d positive positive)
-            (totals_positive profile full) in
+        (totals_positive profile full) in
         let left = worth-rescale ((d *ℤ d) *ℤ t) (s *ℤ s) (expected_cost player i profile) n
-            (n *ℤ t) squared (last_scale n d t) worth-expected in
+        (n *ℤ t) squared (last_scale n d t) worth-expected in
         let sum = worth-plus (s *ℤ s) dot (rest player profile) m rest_num worth-dot worth-rest in
         let right = subst (λ k. Worth (s *ℤ s) (plus dot (rest player profile)) k) all_parts sum in
         record {

@@ -57,8 +57,11 @@ module _ (number : ℤ) (term : CrossTerm) where
     bounds = λ v found e. let o = one_var v found e in
         subst (λ w. IsWithin w (num_of (penny z) v) (pos 1)) (sym o.1)
         (subst (λ k. IsWithin coin (num_of (penny z) k) (pos 1)) (sym o.0)
-        (record { low = omega (arith, ints, low); high = omega (arith, ints, high);
-        whole = λ h. (z, omega (arith, ints)) }));
+        (record {
+          low = omega (arith, ints, low);
+          high = omega (arith, ints, high);
+          whole = λ h. (z, omega (arith, ints));
+        }));
     rows = All-nil (RowHolds (penny z));
     pairs = All-nil (PairHolds (penny z));
   }
@@ -160,12 +163,12 @@ b_flat f = flat (slope b halves 0).num (f 0).num ((slope b halves 0).den *ℤ (f
 best : IsBestAlongSlope pennies halves
 best =
     one_of (λ i player. (x : PointOf) → IsFeasible player x
-        → IsAtMost (along_slope player halves (mean (strategy_of halves i)))
-        (along_slope player halves (value_of x)))
-        (λ x f. level (along_slope a halves (mean half_half)) (along_slope a halves (value_of x))
-        (a_flat (mean half_half)) (a_flat (value_of x)))
-        (λ x f. level (along_slope b halves (mean half_half)) (along_slope b halves (value_of x))
-        (b_flat (mean half_half)) (b_flat (value_of x)))
+    → IsAtMost (along_slope player halves (mean (strategy_of halves i)))
+    (along_slope player halves (value_of x)))
+    (λ x f. level (along_slope a halves (mean half_half)) (along_slope a halves (value_of x))
+    (a_flat (mean half_half)) (a_flat (value_of x)))
+    (λ x f. level (along_slope b halves (mean half_half)) (along_slope b halves (value_of x))
+    (b_flat (mean half_half)) (b_flat (value_of x)))
 
 pub pennies_stable : IsEquilibrium pennies halves
 pennies_stable = (equilibria pennies form halves valid).1 best
@@ -178,8 +181,12 @@ module _ (number : ℤ) (term : CrossTerm) (x : PointOf)
       refl refl
 
   is_penny : (k : ℤ) → num_of x 0 ≡ k *ℤ x.den → IsSamePoint x (penny k)
-  is_penny k e = record { left = feasible.point; right = omega (arith, ints); len = feasible.len;
-      values = each }
+  is_penny k e = record {
+    left = feasible.point;
+    right = omega (arith, ints);
+    len = feasible.len;
+    values = each;
+  }
     where
       each : (v : ℕ) → HaveSameCross (value_of x v) (value_of (penny k) v)
       each zero = let one : num_of x 0 *ℤ pos 1 ≡ num_of x 0 = omega (arith, ints) in one ∙ e
@@ -233,7 +240,7 @@ module _ (x y : PointOf) (x_feasible : IsFeasible a x) (y_feasible : IsFeasible 
       let after = two_same (penny z) y (penny z) (penny l) other second in
       let stays = stable 0 a refl (penny z) (penny_feasible (negsuc 1) a_term z low high) in
       costs_ordered a 0 (x ∷ y ∷ []) (penny z ∷ y ∷ []) (penny k ∷ penny l ∷ [])
-          (penny z ∷ penny l ∷ []) before after stays
+      (penny z ∷ penny l ∷ []) before after stays
 
   b_stays : (k l z : ℤ) → IsSamePoint x (penny k) → IsSamePoint y (penny l) → (pos 0) ≤ℤ z
       → z ≤ℤ (pos 1)
@@ -244,7 +251,7 @@ module _ (x y : PointOf) (x_feasible : IsFeasible a x) (y_feasible : IsFeasible 
       let after = two_same x (penny z) (penny k) (penny z) first other in
       let stays = stable 1 b refl (penny z) (penny_feasible (pos 2) b_term z low high) in
       costs_ordered b 1 (x ∷ y ∷ []) (x ∷ penny z ∷ []) (penny k ∷ penny l ∷ [])
-          (penny k ∷ penny z ∷ []) before after stays
+      (penny k ∷ penny z ∷ []) before after stays
 
   zero_zero : IsSamePoint x (penny (pos 0)) → IsSamePoint y (penny (pos 0)) → ⊥
   zero_zero p q = let h = a_stays (pos 0) (pos 0) (pos 1) p q (omega (arith, ints))
@@ -266,18 +273,18 @@ module _ (x y : PointOf) (x_feasible : IsFeasible a x) (y_feasible : IsFeasible 
   never_stable =
       let other = either (pos 2) b_term y y_feasible in
       ⊎_elim (λ (p : IsSamePoint x (penny (pos 0))). ⊎_elim
-          (λ (q : IsSamePoint y (penny (pos 0))). zero_zero p q)
-          (λ (q : IsSamePoint y (penny (pos 1))). zero_one p q) other)
-          (λ (p : IsSamePoint x (penny (pos 1))). ⊎_elim
-          (λ (q : IsSamePoint y (penny (pos 0))). one_zero p q)
-          (λ (q : IsSamePoint y (penny (pos 1))). one_one p q) other)
-          (either (negsuc 1) a_term x x_feasible)
+      (λ (q : IsSamePoint y (penny (pos 0))). zero_zero p q)
+      (λ (q : IsSamePoint y (penny (pos 1))). zero_one p q) other)
+      (λ (p : IsSamePoint x (penny (pos 1))). ⊎_elim
+      (λ (q : IsSamePoint y (penny (pos 0))). one_zero p q)
+      (λ (q : IsSamePoint y (penny (pos 1))). one_one p q) other)
+      (either (negsuc 1) a_term x x_feasible)
 
 pub no_pure : (profile : Profile) → All IsOne profile → IsEquilibrium pennies profile → ⊥
 no_pure [] pure e = let len = e.valid.len in omega arith
 no_pure (s ∷ []) pure e = let len = e.valid.len in omega arith
 no_pure (s ∷ t ∷ []) pure e =
     never_stable (first_point s) (first_point t) (first_feasible a s (e.valid.strategies 0 a refl))
-        (first_feasible b t (e.valid.strategies 1 b refl))
-        ((pure_equilibria pennies (s ∷ t ∷ []) e.valid pure).0 e)
+    (first_feasible b t (e.valid.strategies 1 b refl))
+    ((pure_equilibria pennies (s ∷ t ∷ []) e.valid pure).0 e)
 no_pure (s ∷ t ∷ u ∷ rest) pure e = let len = e.valid.len in omega arith

@@ -19,8 +19,8 @@ pub own_columns : (columns : ℕ) (ts : Terms) (m : ℤ) (e : ℕ → ℤ) → A
     → sum_to columns (λ v. (coef_at ts v *ℤ m) *ℤ e v) ≡ sum_list ts (λ t. t.1 *ℤ (m *ℤ e t.0))
 own_columns columns ts m e form =
     sum_to_same columns (λ v. (coef_at ts v *ℤ m) *ℤ e v) (λ v. coef_at ts v *ℤ (m *ℤ e v))
-        (λ v h. mul_assoc (coef_at ts v) m (e v)) ∙
-        sym (value_dense 0 columns ts (λ v. m *ℤ e v) form) ∙ value_list ts (λ v. m *ℤ e v)
+    (λ v h. mul_assoc (coef_at ts v) m (e v)) ∙
+    sym (value_dense 0 columns ts (λ v. m *ℤ e v) form) ∙ value_list ts (λ v. m *ℤ e v)
 
 filter_sum : {A : Type 0} (b : Bool) (t : A) (ts : List A) (h : A → ℤ)
     → sum_list (cond b (t ∷ ts) ts) h ≡ cond b (h t) (pos 0) +ℤ sum_list ts h
@@ -50,13 +50,13 @@ pub cross_columns : (columns : ℕ) (ts : List CrossTerm) (h : CrossTerm → ℤ
     (λ t. h t *ℤ e t.own)
 cross_columns columns [] h e all =
     sum_to_same columns (λ v. pos 0 *ℤ e v) (λ v. pos 0) (λ v p. omega (arith, ints)) ∙
-        sum_to_zero columns
+    sum_to_zero columns
 cross_columns columns (t ∷ ts) h e all =
     sum_to_same columns (λ v. sum_list (filter (λ u. u.own == v) (t ∷ ts)) h *ℤ e v)
-        (λ v. cond (t.own == v) (h t) (pos 0) *ℤ e v +ℤ sum_list (filter (λ u. u.own == v) ts)
-        h *ℤ e v)
-        (λ v p. ap (λ x. x *ℤ e v) (filter_sum (t.own == v) t (filter (λ u. u.own == v) ts) h) ∙
-        mul-add_right (cond (t.own == v) (h t) (pos 0)) (sum_list (filter (λ u. u.own == v) ts) h)
-        (e v)) ∙ sum_to-add columns (λ v. cond (t.own == v) (h t) (pos 0) *ℤ e v)
-        (λ v. sum_list (filter (λ u. u.own == v) ts) h *ℤ e v) ∙
-        ap₂ ◌+ℤ◌ (one_column columns t.own (h t) e all.0) (cross_columns columns ts h e all.1)
+    (λ v. cond (t.own == v) (h t) (pos 0) *ℤ e v +ℤ sum_list (filter (λ u. u.own == v) ts)
+    h *ℤ e v)
+    (λ v p. ap (λ x. x *ℤ e v) (filter_sum (t.own == v) t (filter (λ u. u.own == v) ts) h) ∙
+    mul-add_right (cond (t.own == v) (h t) (pos 0)) (sum_list (filter (λ u. u.own == v) ts) h)
+    (e v)) ∙ sum_to-add columns (λ v. cond (t.own == v) (h t) (pos 0) *ℤ e v)
+    (λ v. sum_list (filter (λ u. u.own == v) ts) h *ℤ e v) ∙
+    ap₂ ◌+ℤ◌ (one_column columns t.own (h t) e all.0) (cross_columns columns ts h e all.1)

@@ -24,8 +24,8 @@ den_of_all (parts ∷ rest) = den_of parts *ℤ den_of_all rest
 shares_of : (d k : ℤ) (x : PointOf) → (pos 0) <ℤ x.den → k *ℤ x.den ≡ d → Shares d x
 shares_of d k x positive e =
     let divides : unsigned_abs x.den ∣ unsigned_abs d = subst (λ n. unsigned_abs x.den ∣ n)
-        (sym (unsigned_abs-mul k x.den) ∙ ap unsigned_abs e)
-        (dvd-mul_left (unsigned_abs x.den) (unsigned_abs k)) in
+    (sym (unsigned_abs-mul k x.den) ∙ ap unsigned_abs e)
+    (dvd-mul_left (unsigned_abs x.den) (unsigned_abs k)) in
     record { below = positive; exact = quot_exact d x.den divides }
 
 turn : (k a b : ℤ) → (k *ℤ b) *ℤ a ≡ k *ℤ (a *ℤ b)
@@ -34,21 +34,23 @@ turn k a b = simp spread refl
 shared_parts : (k : ℤ) (parts : Strategy) → Each HasDen parts → AreShared (k *ℤ den_of parts) parts
 unfolding den_of
 shared_parts k [] all = tt
-shared_parts k (part ∷ parts) all =
-    (shares_of (k *ℤ (part.point.den *ℤ den_of parts)) (k *ℤ den_of parts) part.point all.0
-        (turn k part.point.den (den_of parts)),
-        subst (λ (m : ℤ). AreShared m parts) (mul_assoc k part.point.den (den_of parts))
-        (shared_parts (k *ℤ part.point.den) parts all.1))
+shared_parts k (part ∷ parts) all = (
+  shares_of (k *ℤ (part.point.den *ℤ den_of parts)) (k *ℤ den_of parts) part.point all.0
+      (turn k part.point.den (den_of parts)),
+  subst (λ (m : ℤ). AreShared m parts) (mul_assoc k part.point.den (den_of parts))
+      (shared_parts (k *ℤ part.point.den) parts all.1),
+)
 
 shared_all : (k : ℤ) (profile : Profile) → Each (Each HasDen) profile
     → Each (AreShared (k *ℤ den_of_all profile)) profile
 unfolding den_of_all
 shared_all k [] all = tt
-shared_all k (s ∷ ss) all =
-    (subst (λ (m : ℤ). AreShared m s) (turn k (den_of s) (den_of_all ss))
-        (shared_parts (k *ℤ den_of_all ss) s all.0),
-        subst (λ (m : ℤ). Each (AreShared m) ss) (mul_assoc k (den_of s) (den_of_all ss))
-        (shared_all (k *ℤ den_of s) ss all.1))
+shared_all k (s ∷ ss) all = (
+  subst (λ (m : ℤ). AreShared m s) (turn k (den_of s) (den_of_all ss))
+      (shared_parts (k *ℤ den_of_all ss) s all.0),
+  subst (λ (m : ℤ). Each (AreShared m) ss) (mul_assoc k (den_of s) (den_of_all ss))
+      (shared_all (k *ℤ den_of s) ss all.1),
+)
 
 positive_of : (parts : Strategy) → Each HasDen parts → (pos 0) <ℤ den_of parts
 unfolding den_of
@@ -72,8 +74,10 @@ shared_by_all profile all =
 pub each_strategy : (P : Strategy → Type 0) (profile : Profile)
     → ((j : ℕ) → j < length profile → P (strategy_of profile j)) → Each P profile
 each_strategy P [] h = tt
-each_strategy P (s ∷ ss) h = (h zero (omega arith),
-    each_strategy P ss (λ j p. h (suc j) (omega arith)))
+each_strategy P (s ∷ ss) h = (
+  h zero (omega arith),
+  each_strategy P ss (λ j p. h (suc j) (omega arith)),
+)
 
 total_at_least : (parts : Strategy) → Each (λ part. (pos 1) ≤ℤ part.weight) parts
     → (pos 0) ≤ℤ total parts

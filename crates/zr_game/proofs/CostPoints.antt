@@ -18,8 +18,8 @@ module _ (game : GameOf) (form : IsGame game) (points : List PointOf) (are : Are
   pub own_columns_exist : All (λ t. t.0 < length (point_of points i).num) player.cost
   own_columns_exist =
       subst (λ n. All (λ t. t.0 < n) player.cost) (sym (are.lens i player is))
-          (columns_exist IsCoefficient 0 (length player.vars) player.cost
-          (form.players i player is).cost)
+      (columns_exist IsCoefficient 0 (length player.vars) player.cost
+      (form.players i player is).cost)
 
   pub terms_exist : All (IsTermAt i points) player.cross
   terms_exist k d h =

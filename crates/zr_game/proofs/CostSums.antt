@@ -134,9 +134,9 @@ module _ {A : Type 0} (make : A → Result Fraction Wide) (g : A → Fraction) (
         → sum_made make start xs ≡ Err w
     stopped w e =
         ap (sum_made make start) (split_at xs i d here) ∙
-            sum_made-append make start (take i xs) (get_or xs i d ∷ drop (suc i) xs) ∙
-            ap (λ (r : Result Fraction Wide). r >>= λ z. sum_made make z
-            (get_or xs i d ∷ drop (suc i) xs)) before.steps ∙ e
+        sum_made-append make start (take i xs) (get_or xs i d ∷ drop (suc i) xs) ∙
+        ap (λ (r : Result Fraction Wide). r >>= λ z. sum_made make z
+        (get_or xs i d ∷ drop (suc i) xs)) before.steps ∙ e
 
     pub wide_term : (w : Wide) → make (get_or xs i d) ≡ Err w → sum_made make start xs ≡ Err w
     wide_term w made = stopped w (rw made refl)
@@ -172,7 +172,7 @@ both_exact i points t a r same made =
     let first = own_at (value_of (point_of points i)) (t.own, t.coef) in
     let joined = times_assoc (whole t.coef) own other in
     let step = λ (f : Fraction) (e : IsSame f (times a other)). subst (λ (z : Fraction). IsSame f z)
-        joined (times_first f other a first e same) in
+    joined (times_first f other a first e same) in
     if_made r (times a other) (cross_value i points t) step made
 
 -- a term in the variables of two others
@@ -188,7 +188,7 @@ module _ (t : Other) (at : ℕ × ℕ) (first : Fraction) (two : t.second ≡ So
   other_exact value r same made =
       let one = times (whole t.coef) (value t.first) in
       let both = if_made r (times first (value at)) (times one (value at))
-          (λ f e. times_first f (value at) first one e same) made in
+      (λ f e. times_first f (value at) first one e same) made in
       let joined = λ (o : Option (ℕ × ℕ)). option_map_or (λ at. times one (value at)) o one in
       subst (λ (o : Option (ℕ × ℕ)). IfOk r (λ f. IsSame f (joined o))) (sym two) both
 
@@ -224,7 +224,7 @@ module _ (player : PlayerOf) (i : ℕ) (points : List PointOf) where
       let rest = rest_at player (value_at_place points) in
       let both = plus_first crossed cross own terms second first in
       if_made r (plus crossed rest) (plus (plus terms cross) rest)
-          (λ f e. plus_first f rest crossed (plus terms cross) e both) made
+      (λ f e. plus_first f rest crossed (plus terms cross) e both) made
 
 pub zero_lowest : IsLowest (whole (pos 0))
 zero_lowest = lowest_whole (pos 0) (omega arith)

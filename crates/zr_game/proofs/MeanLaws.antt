@@ -30,8 +30,8 @@ use Rattle.zr_game.specs.Profiles.{IsProfile, IsStrategy, Part, Profile, Strateg
 at_index : {A : Type 0} (xs : List A) (j : ℕ) → j < length xs → (x : A) × (slice_get xs j ≡ Some x)
 at_index {A} xs j h =
     ⊎_elim (λ (s : (x : A) × (j < length xs) × (slice_get xs j ≡ Some x) × (get_or xs j x ≡ x)).
-        (s.0, s.2)) (λ (n : (length xs ≤ j) × (slice_get xs j ≡ None)). absurd (omega (arith, n.0)))
-        (slice_get_cases xs j).1
+    (s.0, s.2)) (λ (n : (length xs ≤ j) × (slice_get xs j ≡ None)). absurd (omega (arith, n.0)))
+    (slice_get_cases xs j).1
 
 below_den : (n : ℕ) (f : ℕ → Fraction) → ((v : ℕ) → (pos 0) <ℤ (f v).den)
     → (pos 0) <ℤ (sum_below n f).den
@@ -55,14 +55,14 @@ module _ (a b r : Fraction) (positive : (pos 0) <ℤ r.den) where
   more_at_most : IsAtMost a b → IsAtMost (plus a r) (plus b r)
   more_at_most h =
       let m = simp spread at (le_times (a.num *ℤ b.den) (b.num *ℤ a.den) (r.den *ℤ r.den) square h)
-          in
+      in
       simp spread (omega (arith, ints, m))
 
   less_at_most : IsAtMost (plus a r) (plus b r) → IsAtMost a b
   less_at_most h =
       let m = simp spread at h in
       le_of_times (a.num *ℤ b.den) (b.num *ℤ a.den) (r.den *ℤ r.den) square
-          (simp spread (omega (arith, ints, m)))
+      (simp spread (omega (arith, ints, m)))
 
 -- a term in the others' variables, where these have equal values
 other_equal : (f g : ℕ × ℕ → Fraction) (t : Other) → f t.first ≡ g t.first
@@ -109,14 +109,14 @@ module _ (game : GameOf) (profile : Profile) (valid : IsProfile game profile) wh
   pub full : (j : ℕ) → j < length profile → (pos 0) <ℤ total (strategy_of profile j)
   full =
       strategy_is (λ parts. (pos 0) <ℤ total parts)
-          (λ player parts s. total_positive parts s.some
-          (each_of_all (λ part. (pos 1) ≤ℤ part.weight) parts s.weights))
+      (λ player parts s. total_positive parts s.some
+      (each_of_all (λ part. (pos 1) ≤ℤ part.weight) parts s.weights))
 
   dens : Each (Each HasDen) profile
   dens =
       each_strategy (Each HasDen) profile (strategy_is (Each HasDen)
-          (λ player parts s. each_weaker (λ part. IsFeasible player part.point) HasDen parts
-          (λ part f. f.point) (each_of_all (λ part. IsFeasible player part.point) parts s.points)))
+      (λ player parts s. each_weaker (λ part. IsFeasible player part.point) HasDen parts
+      (λ part f. f.point) (each_of_all (λ part. IsFeasible player part.point) parts s.points)))
 
   module _ (i : ℕ) (player : PlayerOf) (is : IsPlayer game i player) where
     here : i < length profile
@@ -129,21 +129,26 @@ module _ (game : GameOf) (profile : Profile) (valid : IsProfile game profile) wh
         let Form = IsCrossForm game i (length player.vars) in
         let of = λ (t : CrossTerm) (f : IsCrossForm game i (length player.vars) t). cross_of t f in
         each_weaker Form (IsCross i (length player.vars) (length profile)) player.cross of
-            (each_of_all Form player.cross form.cross)
+        (each_of_all Form player.cross form.cross)
       where
         cross_of : (t : CrossTerm) → IsCrossForm game i (length player.vars) t
             → IsCross i (length player.vars) (length profile) t
-        cross_of t f = record { own = f.own;
-            player = subst (λ n. t.player < n) (sym valid.len) f.player; apart = f.other }
+        cross_of t f = record {
+          own = f.own;
+          player = subst (λ n. t.player < n) (sym valid.len) f.player;
+          apart = f.other;
+        }
 
     other_form : Each (IsOther i (length profile)) player.others
     other_form =
         each_weaker (IsOtherForm game i) (IsOther i (length profile)) player.others other_of
-            (each_of_all (IsOtherForm game i) player.others form.others)
+        (each_of_all (IsOtherForm game i) player.others form.others)
       where
         far : (at : ℕ × ℕ) → IsOthersVar game i at → IsFar i (length profile) at
-        far at f = record { player = subst (λ n. at.0 < n) (sym valid.len) f.player;
-            apart = f.other }
+        far at f = record {
+          player = subst (λ n. at.0 < n) (sym valid.len) f.player;
+          apart = f.other;
+        }
 
         other_of : (t : Other) → IsOtherForm game i t → IsOther i (length profile) t
         other_of t f = record {
@@ -161,26 +166,26 @@ module _ (game : GameOf) (profile : Profile) (valid : IsProfile game profile) wh
         (plus (along_slope player profile f) (rest player profile))
     along f positive same =
         by_means player i (length player.vars) profile (den_of_all profile)
-            (positive_all profile dens) (shared_by_all profile dens) full (here i player is)
-            cost_form cross_form other_form f positive same
+        (positive_all profile dens) (shared_by_all profile dens) full (here i player is)
+        cost_form cross_form other_form f positive same
 
     pub mean_den : (v : ℕ) → (pos 0) <ℤ (mean (strategy_of profile i) v).den
     mean_den v =
         mean_positive player i (length player.vars) profile (den_of_all profile)
-            (positive_all profile dens) (shared_by_all profile dens) full (here i player is)
-            cost_form cross_form other_form i v (here i player is)
+        (positive_all profile dens) (shared_by_all profile dens) full (here i player is)
+        cost_form cross_form other_form i v (here i player is)
 
     pub slope_den : (v : ℕ) → (pos 0) <ℤ (slope player profile v).den
     slope_den v =
         slope_positive player i (length player.vars) profile (den_of_all profile)
-            (positive_all profile dens) (shared_by_all profile dens) full (here i player is)
-            cost_form cross_form other_form v
+        (positive_all profile dens) (shared_by_all profile dens) full (here i player is)
+        cost_form cross_form other_form v
 
     pub rest_den : (pos 0) <ℤ (rest player profile).den
     rest_den =
         rest_positive player i (length player.vars) profile (den_of_all profile)
-            (positive_all profile dens) (shared_by_all profile dens) full (here i player is)
-            cost_form cross_form other_form
+        (positive_all profile dens) (shared_by_all profile dens) full (here i player is)
+        cost_form cross_form other_form
 
     pub at_mean : IsSame (expected_cost player i profile)
         (plus (along_slope player profile (mean (strategy_of profile i))) (rest player profile))
@@ -189,114 +194,114 @@ module _ (game : GameOf) (profile : Profile) (valid : IsProfile game profile) wh
     pub expected_den : (pos 0) <ℤ (expected_cost player i profile).den
     expected_den =
         expected_positive player i (length player.vars) profile (den_of_all profile)
-            (positive_all profile dens) (shared_by_all profile dens) full (here i player is)
-            cost_form cross_form other_form
+        (positive_all profile dens) (shared_by_all profile dens) full (here i player is)
+        cost_form cross_form other_form
 
     pub along_den : (f : ℕ → Fraction) → ((v : ℕ) → (pos 0) <ℤ (f v).den)
         → (pos 0) <ℤ (along_slope player profile f).den
     along_den f positive =
         below_den (length player.vars) (λ v. times (slope player profile v) (f v))
-            (λ v. mul_positive (slope player profile v).den (f v).den (slope_den v) (positive v))
+        (λ v. mul_positive (slope player profile v).den (f v).den (slope_den v) (positive v))
 
 module _ (game : GameOf) (profile : Profile) (valid : IsProfile game profile) (i : ℕ)
     (player : PlayerOf) (is : IsPlayer game i player) (x : PointOf) (feasible : IsFeasible player x)
-    where
-  replaced : strategy_of (deviation profile i x) i ≡ surely x
-  replaced = get_or-set_same profile i (surely x) [] (here game profile valid i player is)
+  where
+    replaced : strategy_of (deviation profile i x) i ≡ surely x
+    replaced = get_or-set_same profile i (surely x) [] (here game profile valid i player is)
 
-  others : (k : ℕ) → k ≢ i → strategy_of (deviation profile i x) k ≡ strategy_of profile k
-  others k n = get_or-set_other profile i k (surely x) [] n
+    others : (k : ℕ) → k ≢ i → strategy_of (deviation profile i x) k ≡ strategy_of profile k
+    others k n = get_or-set_other profile i k (surely x) [] n
 
-  pub deviation_valid : IsProfile game (deviation profile i x)
-  deviation_valid = record {
-    len = length-set profile i (surely x) ∙ valid.len;
-    strategies = λ k other is_other. ⊎_elim (λ (e : k ≡ i).
-        subst (λ j. IsStrategy other (strategy_of (deviation profile i x) j)) (sym e)
-        (subst (λ s. IsStrategy other s) (sym replaced)
-        (surely_valid other x
-        (subst (λ p. IsFeasible p x) (same_player k other e is_other) feasible))))
-        (λ (n : k ≢ i). subst (λ s. IsStrategy other s) (sym (others k n))
-        (valid.strategies k other is_other)) (cases_eq k i);
-  }
-    where
-      same_player : (k : ℕ) (other : PlayerOf) → k ≡ i → IsPlayer game k other → player ≡ other
-      same_player k other e is_other = cc
-
-  module _ (form : IsPlayerForm game i player) where
-    slope_same : (v : ℕ) → slope player (deviation profile i x) v ≡ slope player profile v
-    slope_same v =
-        let Cross = IsCross i (length player.vars) (length profile) in
-        let ts = filter (λ t. t.own == v) player.cross in
-        let f = λ (t : CrossTerm). times (whole t.coef)
-            (mean (strategy_of (deviation profile i x) t.player) t.var) in
-        let g = λ (t : CrossTerm). times (whole t.coef) (mean (strategy_of profile t.player) t.var)
-            in
-        let kept = λ (t : CrossTerm) (form : IsCross i (length player.vars) (length profile) t).
-            ap (λ s. times (whole t.coef) (mean s t.var)) (others t.player form.apart) in
-        let all = each_filter Cross (λ t. t.own == v) player.cross
-            (cross_form game profile valid i player is form) in
-        ap (plus (whole (coef_at player.cost v))) (over_same Cross ts f g kept all)
-
-    along_same : (f : ℕ → Fraction)
-        → along_slope player (deviation profile i x) f ≡ along_slope player profile f
-    along_same f =
-        below_same (length player.vars) (λ v. times (slope player (deviation profile i x) v) (f v))
-            (λ v. times (slope player profile v) (f v))
-            (λ v. ap (λ s. times s (f v)) (slope_same v))
-
-    rest_kept : rest player (deviation profile i x) ≡ rest player profile
-    rest_kept =
-        let f = mean_at_place (deviation profile i x) in
-        let g = mean_at_place profile in
-        over_same (IsOther i (length profile)) player.others (other_at f) (other_at g)
-            (λ t form. other_equal f g t (far t.first form.first)
-            (λ at e. far at (form.second at e))) (other_form game profile valid i player is form)
+    pub deviation_valid : IsProfile game (deviation profile i x)
+    deviation_valid = record {
+      len = length-set profile i (surely x) ∙ valid.len;
+      strategies = λ k other is_other. ⊎_elim (λ (e : k ≡ i).
+          subst (λ j. IsStrategy other (strategy_of (deviation profile i x) j)) (sym e)
+          (subst (λ s. IsStrategy other s) (sym replaced)
+          (surely_valid other x
+          (subst (λ p. IsFeasible p x) (same_player k other e is_other) feasible))))
+          (λ (n : k ≢ i). subst (λ s. IsStrategy other s) (sym (others k n))
+          (valid.strategies k other is_other)) (cases_eq k i);
+    }
       where
-        far : (at : ℕ × ℕ) → IsFar i (length profile) at
-            → mean_at_place (deviation profile i x) at ≡ mean_at_place profile at
-        far at f = ap (λ s. mean s at.1) (others at.0 f.apart)
+        same_player : (k : ℕ) (other : PlayerOf) → k ≡ i → IsPlayer game k other → player ≡ other
+        same_player k other e is_other = cc
 
-    pub at_deviation : IsSame (expected_cost player i (deviation profile i x))
-        (plus (along_slope player profile (value_of x)) (rest player profile))
-    at_deviation =
-        let dev = deviation profile i x in
-        let cost = expected_cost player i dev in
-        let to_value = λ (v : ℕ) (h : v < length player.vars).
-            subst (λ s. HaveSameCross (mean s v) (value_of x v)) (sym replaced) (mean_surely x v) in
-        let by = along game dev deviation_valid i player is form (value_of x)
-            (λ v h. feasible.point) to_value in
-        subst (λ r. IsSame cost (plus (along_slope player profile (value_of x)) r)) rest_kept
-            (subst (λ a. IsSame cost (plus a (rest player dev))) (along_same (value_of x)) by)
+    module _ (form : IsPlayerForm game i player) where
+      slope_same : (v : ℕ) → slope player (deviation profile i x) v ≡ slope player profile v
+      slope_same v =
+          let Cross = IsCross i (length player.vars) (length profile) in
+          let ts = filter (λ t. t.own == v) player.cross in
+          let f = λ (t : CrossTerm). times (whole t.coef)
+          (mean (strategy_of (deviation profile i x) t.player) t.var) in
+          let g = λ (t : CrossTerm). times (whole t.coef) (mean (strategy_of profile t.player) t.var)
+          in
+          let kept = λ (t : CrossTerm) (form : IsCross i (length player.vars) (length profile) t).
+          ap (λ s. times (whole t.coef) (mean s t.var)) (others t.player form.apart) in
+          let all = each_filter Cross (λ t. t.own == v) player.cross
+          (cross_form game profile valid i player is form) in
+          ap (plus (whole (coef_at player.cost v))) (over_same Cross ts f g kept all)
 
-    rest_above : (pos 0) <ℤ (rest player profile).den
-    rest_above = rest_den game profile valid i player is form
+      along_same : (f : ℕ → Fraction)
+          → along_slope player (deviation profile i x) f ≡ along_slope player profile f
+      along_same f =
+          below_same (length player.vars) (λ v. times (slope player (deviation profile i x) v) (f v))
+          (λ v. times (slope player profile v) (f v))
+          (λ v. ap (λ s. times s (f v)) (slope_same v))
 
-    pub to_slope : IsAtMost (expected_cost player i profile)
-        (expected_cost player i (deviation profile i x))
-        → IsAtMost (along_slope player profile (mean (strategy_of profile i)))
-        (along_slope player profile (value_of x))
-    to_slope h =
-        let own = along_slope player profile (mean (strategy_of profile i)) in
-        let other = along_slope player profile (value_of x) in
-        let r = rest player profile in
-        let here = at_mean game profile valid i player is form in
-        less_at_most own other r rest_above (order_same (expected_cost player i profile)
-            (expected_cost player i (deviation profile i x)) (plus own r) (plus other r) here
-            at_deviation h)
+      rest_kept : rest player (deviation profile i x) ≡ rest player profile
+      rest_kept =
+          let f = mean_at_place (deviation profile i x) in
+          let g = mean_at_place profile in
+          over_same (IsOther i (length profile)) player.others (other_at f) (other_at g)
+          (λ t form. other_equal f g t (far t.first form.first)
+          (λ at e. far at (form.second at e))) (other_form game profile valid i player is form)
+        where
+          far : (at : ℕ × ℕ) → IsFar i (length profile) at
+              → mean_at_place (deviation profile i x) at ≡ mean_at_place profile at
+          far at f = ap (λ s. mean s at.1) (others at.0 f.apart)
 
-    pub of_slope : IsAtMost (along_slope player profile (mean (strategy_of profile i)))
-        (along_slope player profile (value_of x))
-        → IsAtMost (expected_cost player i profile) (expected_cost player i (deviation profile i x))
-    of_slope h =
-        let own = along_slope player profile (mean (strategy_of profile i)) in
-        let other = along_slope player profile (value_of x) in
-        let r = rest player profile in
-        let before = expected_cost player i profile in
-        let after = expected_cost player i (deviation profile i x) in
-        let here = same_sym before (plus own r) (at_mean game profile valid i player is form) in
-        let there = same_sym after (plus other r) at_deviation in
-        order_same (plus own r) (plus other r) before after here there
-            (more_at_most own other r rest_above h)
+      pub at_deviation : IsSame (expected_cost player i (deviation profile i x))
+          (plus (along_slope player profile (value_of x)) (rest player profile))
+      at_deviation =
+          let dev = deviation profile i x in
+          let cost = expected_cost player i dev in
+          let to_value = λ (v : ℕ) (h : v < length player.vars).
+          subst (λ s. HaveSameCross (mean s v) (value_of x v)) (sym replaced) (mean_surely x v) in
+          let by = along game dev deviation_valid i player is form (value_of x)
+          (λ v h. feasible.point) to_value in
+          subst (λ r. IsSame cost (plus (along_slope player profile (value_of x)) r)) rest_kept
+          (subst (λ a. IsSame cost (plus a (rest player dev))) (along_same (value_of x)) by)
+
+      rest_above : (pos 0) <ℤ (rest player profile).den
+      rest_above = rest_den game profile valid i player is form
+
+      pub to_slope : IsAtMost (expected_cost player i profile)
+          (expected_cost player i (deviation profile i x))
+          → IsAtMost (along_slope player profile (mean (strategy_of profile i)))
+          (along_slope player profile (value_of x))
+      to_slope h =
+          let own = along_slope player profile (mean (strategy_of profile i)) in
+          let other = along_slope player profile (value_of x) in
+          let r = rest player profile in
+          let here = at_mean game profile valid i player is form in
+          less_at_most own other r rest_above (order_same (expected_cost player i profile)
+          (expected_cost player i (deviation profile i x)) (plus own r) (plus other r) here
+          at_deviation h)
+
+      pub of_slope : IsAtMost (along_slope player profile (mean (strategy_of profile i)))
+          (along_slope player profile (value_of x))
+          → IsAtMost (expected_cost player i profile) (expected_cost player i (deviation profile i x))
+      of_slope h =
+          let own = along_slope player profile (mean (strategy_of profile i)) in
+          let other = along_slope player profile (value_of x) in
+          let r = rest player profile in
+          let before = expected_cost player i profile in
+          let after = expected_cost player i (deviation profile i x) in
+          let here = same_sym before (plus own r) (at_mean game profile valid i player is form) in
+          let there = same_sym after (plus other r) at_deviation in
+          order_same (plus own r) (plus other r) before after here there
+          (more_at_most own other r rest_above h)
 
 pub equilibria : (game : GameOf) → IsGame game → (profile : Profile) → IsProfile game profile
     → IsEquilibrium game profile ↔ IsBestAlongSlope game profile

@@ -21,7 +21,7 @@ pub played : (game : GameOf) (profile : Profile) → IsProfile game profile → 
 played game profile valid one i player is =
     let cost = cost_of player i (points_of profile) in
     let den = cost_den player i (points_of profile)
-        (feasible_dens game (points_of profile) (profile_points game profile valid)) in
+    (feasible_dens game (points_of profile) (profile_points game profile valid)) in
     let all = totals_positive profile (full game profile valid) in
     record {
       left = subst (λ (f : Fraction). (pos 0) <ℤ f.den) (sym (expected_is player i profile one))
@@ -37,6 +37,6 @@ pub deviated : (game : GameOf) (profile : Profile) → IsProfile game profile �
 deviated game profile valid one i player is x feasible =
     let dev = deviation profile i x in
     let of = played game dev (deviation_valid game profile valid i player is x feasible)
-        (pure_deviation profile i x one) i player is in
+    (pure_deviation profile i x one) i player is in
     subst (λ points. IsSame (expected_cost player i dev) (cost_of player i points))
-        (points_of-deviation profile i x) of
+    (points_of-deviation profile i x) of

@@ -35,12 +35,12 @@ module _ (s t : ℤ) (f g : Fraction) (s_positive : (pos 0) <ℤ s) (t_positive 
   pub of_scaled : IsAtMost (over (scaled s f) s) (over (scaled t g) t) → IsAtMost f g
   of_scaled h =
       le_of_times (f.num *ℤ g.den) (g.num *ℤ f.den) (s *ℤ t)
-          (mul_positive s t s_positive t_positive) (rw (← left_is, ← right_is) h)
+      (mul_positive s t s_positive t_positive) (rw (← left_is, ← right_is) h)
 
   pub to_scaled : IsAtMost f g → IsAtMost (over (scaled s f) s) (over (scaled t g) t)
   to_scaled h =
       rw (left_is, right_is) (le_times (f.num *ℤ g.den) (g.num *ℤ f.den) (s *ℤ t)
-          (mul_positive s t s_positive t_positive) h)
+      (mul_positive s t s_positive t_positive) h)
 
 module _ (game : GameOf) (profile : Profile) (valid : IsProfile game profile)
     (pure : All IsOne profile) (i : ℕ) (player : PlayerOf) (is : IsPlayer game i player)
@@ -50,9 +50,9 @@ module _ (game : GameOf) (profile : Profile) (valid : IsProfile game profile)
       (cost_of player i (slice_set (points_of profile) i x))) (totals (deviation profile i x))
   deviated =
       subst (λ points. expected_cost player i (deviation profile i x) ≡ over
-          (scaled (totals (deviation profile i x)) (cost_of player i points))
-          (totals (deviation profile i x))) (points_of-deviation profile i x)
-          (expected_is player i (deviation profile i x) (pure_deviation profile i x pure))
+      (scaled (totals (deviation profile i x)) (cost_of player i points))
+      (totals (deviation profile i x))) (points_of-deviation profile i x)
+      (expected_is player i (deviation profile i x) (pure_deviation profile i x pure))
 
   here_positive : (pos 0) <ℤ totals profile
   here_positive = totals_positive profile (full game profile valid)
@@ -60,8 +60,8 @@ module _ (game : GameOf) (profile : Profile) (valid : IsProfile game profile)
   there_positive : (pos 0) <ℤ totals (deviation profile i x)
   there_positive =
       totals_positive (deviation profile i x)
-          (full game (deviation profile i x)
-          (deviation_valid game profile valid i player is x feasible))
+      (full game (deviation profile i x)
+      (deviation_valid game profile valid i player is x feasible))
 
   pub to_points : IsAtMost (expected_cost player i profile)
       (expected_cost player i (deviation profile i x))
@@ -69,28 +69,28 @@ module _ (game : GameOf) (profile : Profile) (valid : IsProfile game profile)
       (cost_of player i (slice_set (points_of profile) i x))
   to_points h =
       of_scaled (totals profile) (totals (deviation profile i x))
-          (cost_of player i (points_of profile))
-          (cost_of player i (slice_set (points_of profile) i x)) here_positive there_positive
-          (subst (λ (f : Fraction). IsAtMost f
-          (over
-          (scaled (totals (deviation profile i x))
-          (cost_of player i (slice_set (points_of profile) i x))) (totals (deviation profile i x))))
-          (expected_is player i profile pure)
-          (subst (λ (f : Fraction). IsAtMost (expected_cost player i profile) f) deviated h))
+      (cost_of player i (points_of profile))
+      (cost_of player i (slice_set (points_of profile) i x)) here_positive there_positive
+      (subst (λ (f : Fraction). IsAtMost f
+      (over
+      (scaled (totals (deviation profile i x))
+      (cost_of player i (slice_set (points_of profile) i x))) (totals (deviation profile i x))))
+      (expected_is player i profile pure)
+      (subst (λ (f : Fraction). IsAtMost (expected_cost player i profile) f) deviated h))
 
   pub of_points : IsAtMost (cost_of player i (points_of profile))
       (cost_of player i (slice_set (points_of profile) i x))
       → IsAtMost (expected_cost player i profile) (expected_cost player i (deviation profile i x))
   of_points h =
       let g = to_scaled (totals profile) (totals (deviation profile i x))
-          (cost_of player i (points_of profile))
-          (cost_of player i (slice_set (points_of profile) i x)) here_positive there_positive h in
+      (cost_of player i (points_of profile))
+      (cost_of player i (slice_set (points_of profile) i x)) here_positive there_positive h in
       subst (λ (f : Fraction). IsAtMost (expected_cost player i profile) f) (sym deviated)
-          (subst (λ (f : Fraction). IsAtMost f
-          (over
-          (scaled (totals (deviation profile i x))
-          (cost_of player i (slice_set (points_of profile) i x))) (totals (deviation profile i x))))
-          (sym (expected_is player i profile pure)) g)
+      (subst (λ (f : Fraction). IsAtMost f
+      (over
+      (scaled (totals (deviation profile i x))
+      (cost_of player i (slice_set (points_of profile) i x))) (totals (deviation profile i x))))
+      (sym (expected_is player i profile pure)) g)
 
 pub pure_equilibria : (game : GameOf) (profile : Profile) → IsProfile game profile
     → All IsOne profile → IsEquilibrium game profile ↔ IsStableAt game (points_of profile)
@@ -114,15 +114,21 @@ pub record AreSame (points others : List PointOf) : Type 0 where
 pub costs_same : (player : PlayerOf) (i : ℕ) (a b : List PointOf) → AreSame a b
     → IsSame (cost_of player i a) (cost_of player i b)
 costs_same player i a b s =
-    cost_same player i a b (λ k v. record { left = s.dens k; right = s.other_dens k;
-        cross = s.values k v })
+    cost_same player i a b (λ k v. record {
+      left = s.dens k;
+      right = s.other_dens k;
+      cross = s.values k v;
+    })
 
 -- a cost's denominator is above zero
 pub cost_den : (player : PlayerOf) (i : ℕ) (points : List PointOf)
     → ((k : ℕ) → (pos 0) <ℤ (point_of points k).den) → (pos 0) <ℤ (cost_of player i points).den
 cost_den player i points h =
-    (costs_same player i points points (record { dens = h; other_dens = h;
-        values = λ k v. refl })).left
+    (costs_same player i points points (record {
+      dens = h;
+      other_dens = h;
+      values = λ k v. refl;
+    })).left
 
 -- costs at points of the same values are ordered alike
 pub costs_ordered : (player : PlayerOf) (i : ℕ) (a b c d : List PointOf) → AreSame a c → AreSame b d
@@ -130,4 +136,4 @@ pub costs_ordered : (player : PlayerOf) (i : ℕ) (a b c d : List PointOf) → A
     → IsAtMost (cost_of player i c) (cost_of player i d)
 costs_ordered player i a b c d p q =
     order_same (cost_of player i a) (cost_of player i b) (cost_of player i c) (cost_of player i d)
-        (costs_same player i a c p) (costs_same player i b d q)
+    (costs_same player i a c p) (costs_same player i b d q)

@@ -23,15 +23,15 @@ one_weighted : (part : Part) (f : PointOf → Fraction) (k : ℤ) (g : Fraction)
     → f part.point ≡ scaled k g → weighted (part ∷ []) f ≡ scaled (total (part ∷ []) *ℤ k) g
 one_weighted part f k g e =
     ap (λ h. plus (times (whole part.weight) h) (whole (pos 0))) e ∙
-        same_record (plus (times (whole part.weight) (scaled k g)) (whole (pos 0)))
-        (scaled (total (part ∷ []) *ℤ k) g) (num part.weight k g.num) (den g.den)
+    same_record (plus (times (whole part.weight) (scaled k g)) (whole (pos 0)))
+    (scaled (total (part ∷ []) *ℤ k) g) (num part.weight k g.num) (den g.den)
   where
     num : (w k n : ℤ)
         → (w *ℤ (k *ℤ n)) *ℤ pos 1 +ℤ pos 0 *ℤ (pos 1 *ℤ g.den) ≡ ((w +ℤ pos 0) *ℤ k) *ℤ n
     num w k n =
         let one : (w +ℤ pos 0) ≡ w = omega (arith, ints) in
         let a : (w *ℤ (k *ℤ n)) *ℤ pos 1 +ℤ pos 0 *ℤ (pos 1 *ℤ g.den) ≡ w *ℤ (k *ℤ n) = omega
-            (arith, ints) in
+        (arith, ints) in
         a ∙ sym (mul_assoc w k n) ∙ ap (λ z. (z *ℤ k) *ℤ n) (sym one)
 
     den : (d : ℤ) → (pos 1 *ℤ d) *ℤ pos 1 ≡ d
@@ -44,7 +44,7 @@ one_tuple [] f all = same_record (f []) (scaled (pos 1) (f [])) (omega (arith, i
 one_tuple ([] ∷ rest) f all = absurd (omega (arith, all.0))
 one_tuple ((part ∷ []) ∷ rest) f all =
     one_weighted part (λ x. tuple_sum rest (λ points. f (x ∷ points))) (totals rest)
-        (f (part.point ∷ points_of rest)) (one_tuple rest (λ points. f (part.point ∷ points)) all.1)
+    (f (part.point ∷ points_of rest)) (one_tuple rest (λ points. f (part.point ∷ points)) all.1)
 one_tuple ((part ∷ other ∷ parts) ∷ rest) f all = absurd (omega (arith, all.0))
 
 each : (profile : Profile) → All IsOne profile → Each IsOne profile
@@ -68,8 +68,8 @@ pub pure_cost : (player : PlayerOf) (i : ℕ) (profile : Profile) → All IsOne 
     → HaveSameCross (expected_cost player i profile) (cost_of player i (points_of profile))
 pure_cost player i profile all =
     subst (λ f. HaveSameCross f (cost_of player i (points_of profile)))
-        (sym (expected_is player i profile all))
-        (same_over (totals profile) (cost_of player i (points_of profile)))
+    (sym (expected_is player i profile all))
+    (same_over (totals profile) (cost_of player i (points_of profile)))
 
 pub points_of-deviation : (profile : Profile) (i : ℕ) (x : PointOf)
     → points_of (deviation profile i x) ≡ slice_set (points_of profile) i x

@@ -110,9 +110,9 @@ set_same a b i x in_a in_b positive s = record {
         → (pos 0) <ℤ (point_of (slice_set a i x) k).den
     of a k h dens =
         ⊎_elim (λ (e : k ≡ i). subst (λ n. (pos 0) <ℤ (point_of (slice_set a i x) n).den) (sym e)
-            (subst (λ y. (pos 0) <ℤ y.den) (sym (here a h)) positive))
-            (λ (n : k ≢ i). subst (λ y. (pos 0) <ℤ y.den) (sym (other a k n)) (dens k))
-            (cases_eq k i)
+        (subst (λ y. (pos 0) <ℤ y.den) (sym (here a h)) positive))
+        (λ (n : k ≢ i). subst (λ y. (pos 0) <ℤ y.den) (sym (other a k n)) (dens k))
+        (cases_eq k i)
 
     there : (k v : ℕ) → k ≢ i
         → HaveSameCross (value_of (point_of (slice_set a i x) k) v)
@@ -128,5 +128,5 @@ pub stable_same : (game : GameOf) (a b : List PointOf) → length a ≡ length g
 stable_same game a b a_len b_len s stable i player is x feasible =
     let w = slice_get_within game i player is in
     costs_ordered player i a (slice_set a i x) b (slice_set b i x) s
-        (set_same a b i x (omega arith) (omega arith) feasible.point s)
-        (stable i player is x feasible)
+    (set_same a b i x (omega arith) (omega arith) feasible.point s)
+    (stable i player is x feasible)

@@ -41,13 +41,13 @@ module _ (f g : ℕ × ℕ → Fraction) where
       on None h = one
       on (Some at) h =
           times_same (times (whole t.coef) (f t.first)) (f at) (times (whole t.coef) (g t.first))
-              (g at) one (h at refl)
+          (g at) one (h at refl)
 
   pub rest_same : (player : PlayerOf) → ((at : ℕ × ℕ) → IsSame (f at) (g at))
       → IsSame (rest_at player f) (rest_at player g)
   rest_same player h =
       sum_over_same player.others (other_at f) (other_at g)
-          (λ t. other_same t (h t.first) (λ at e. h at))
+      (λ t. other_same t (h t.first) (λ at e. h at))
 
 pub cost_same : (player : PlayerOf) (i : ℕ) (points others : List PointOf)
     → ((k v : ℕ) → IsSame (value_of (point_of points k) v) (value_of (point_of others k) v))
@@ -60,9 +60,9 @@ cost_same player i points others h =
     let here = λ (t : ℕ × ℤ). multiple_same t.1 (a t.0) (b t.0) (h i t.0) in
     let far = λ (at : ℕ × ℕ). h at.0 at.1 in
     let pair = λ (t : CrossTerm). times_same (a t.own) (f (t.player, t.var)) (b t.own)
-        (g (t.player, t.var)) (h i t.own) (far (t.player, t.var)) in
+    (g (t.player, t.var)) (h i t.own) (far (t.player, t.var)) in
     let there = λ (t : CrossTerm). multiple_same t.coef (times (a t.own) (f (t.player, t.var)))
-        (times (b t.own) (g (t.player, t.var))) (pair t) in
+    (times (b t.own) (g (t.player, t.var))) (pair t) in
     let own = sum_over_same player.cost (own_at a) (own_at b) here in
     let cross = sum_over_same player.cross (cross_at a f) (cross_at b g) there in
     let terms = sum_over player.cost (own_at a) in
@@ -71,7 +71,7 @@ cost_same player i points others h =
     let other_crossed = sum_over player.cross (cross_at b g) in
     let both = plus_same terms crossed other_terms other_crossed own cross in
     plus_same (plus terms crossed) (rest_at player f) (plus other_terms other_crossed)
-        (rest_at player g) both (rest_same f g player far)
+    (rest_at player g) both (rest_same f g player far)
 
 -- what holds of `n / d` holds of the same value `m / e`
 module _ (n d m e : ℤ) (d_positive : (pos 0) <ℤ d) (e_positive : (pos 0) <ℤ e)
@@ -111,7 +111,7 @@ module _ (x y : PointOf) (same : IsSamePoint x y) where
       let r = same_sum ts in
       let s = same.values t.0 in
       head t.1 (num_of x t.0) y.den (num_of y t.0) x.den (sum_products (products ts x.num))
-          (sum_products (products ts y.num)) s r
+      (sum_products (products ts y.num)) s r
     where
       head : (c n e m d a b : ℤ) → n *ℤ e ≡ m *ℤ d → a *ℤ e ≡ b *ℤ d
           → (c *ℤ n +ℤ a) *ℤ e ≡ (c *ℤ m +ℤ b) *ℤ d
@@ -128,9 +128,11 @@ module _ (x y : PointOf) (same : IsSamePoint x y) where
   within var v w = record {
     low = low var.low w.low;
     high = up var.up w.high;
-    whole = λ h. let k = w.whole h in
-        (k.0, multiple (num_of x v) x.den (num_of y v) y.den same.left same.right (same.values v)
-        k.0 k.1);
+    whole = λ h. let k = w.whole h in (
+      k.0,
+      multiple (num_of x v) x.den (num_of y v) y.den same.left same.right (same.values v)
+          k.0 k.1,
+    );
   }
     where
       low : (o : Option ℤ) → IfSome o (λ b. (b *ℤ x.den) ≤ℤ num_of x v)
@@ -153,10 +155,11 @@ module _ (x y : PointOf) (same : IsSamePoint x y) where
       let m = num_of y pair.var in
       let here = λ (z : n ≡ pos 0). inl (none n x.den m y.den same.left same.right value z) in
       let there = λ (z : slack pair x ≡ pos 0). inr
-          (none (slack pair x) x.den (slack pair y) y.den same.left same.right s z) in
-      (at_least n x.den m y.den same.left same.right value h.0,
-          at_least (slack pair x) x.den (slack pair y) y.den same.left same.right s h.1,
-          ⊎_elim here there h.2)
+      (none (slack pair x) x.den (slack pair y) y.den same.left same.right s z) in (
+        at_least n x.den m y.den same.left same.right value h.0,
+        at_least (slack pair x) x.den (slack pair y) y.den same.left same.right s h.1,
+        ⊎_elim here there h.2,
+      )
 
   pub feasible_same : (player : PlayerOf) → IsFeasible player x → IsFeasible player y
   feasible_same player f = record {

@@ -40,8 +40,8 @@ pub worth-weighted : (e d : ℤ) (parts : Strategy) (f : PointOf → Fraction) (
     → Worth e (weighted parts f) (weigh parts n)
 worth-weighted e d parts f n h all =
     worth-sum e (λ part. Shares d part.point) parts
-        (λ part. times (whole part.weight) (f part.point)) (λ part. part.weight *ℤ n part.point)
-        (λ part s. worth-multiple e part.weight (f part.point) (n part.point) (h part.point s)) all
+    (λ part. times (whole part.weight) (f part.point)) (λ part. part.weight *ℤ n part.point)
+    (λ part s. worth-multiple e part.weight (f part.point) (n part.point) (h part.point s)) all
 
 pub worth-tuples : (e d : ℤ) (profile : Profile) (f : List PointOf → Fraction) (n : List PointOf
     → ℤ) → ((points : List PointOf) → Each (Shares d) points → Worth e (f points) (n points))
@@ -49,14 +49,16 @@ pub worth-tuples : (e d : ℤ) (profile : Profile) (f : List PointOf → Fractio
 worth-tuples e d [] f n h all = h [] tt
 worth-tuples e d (s ∷ ss) f n h all =
     worth-weighted e d s (λ x. tuple_sum ss (λ points. f (x ∷ points)))
-        (λ x. tuples ss (λ points. n (x ∷ points)))
-        (λ x one. worth-tuples e d ss (λ points. f (x ∷ points)) (λ points. n (x ∷ points))
-        (λ points rest. h (x ∷ points) (one, rest)) all.1) all.0
+    (λ x. tuples ss (λ points. n (x ∷ points)))
+    (λ x one. worth-tuples e d ss (λ points. f (x ∷ points)) (λ points. n (x ∷ points))
+    (λ points rest. h (x ∷ points) (one, rest)) all.1) all.0
 
 pub shared_point : (d : ℤ) (points : List PointOf) (k : ℕ) → Each (Shares d) points
     → Shares d (point_of points k)
-shared_point d [] k all = record { below = omega (arith, ints);
-    exact = quot_exact d (pos 1) (one-dvd (unsigned_abs d)) }
+shared_point d [] k all = record {
+  below = omega (arith, ints);
+  exact = quot_exact d (pos 1) (one-dvd (unsigned_abs d));
+}
 shared_point d (x ∷ xs) zero all = all.0
 shared_point d (x ∷ xs) (suc k) all = shared_point d xs k all.1
 
@@ -130,17 +132,17 @@ worth-cost player i d points all =
     let far_num = place_num d points in
     let own = λ (v : ℕ). worth-value d (point_of points i) v (shared_point d points i all) in
     let other = λ (at : ℕ × ℕ). worth-value d (point_of points at.0) at.1
-        (shared_point d points at.0 all) in
+    (shared_point d points at.0 all) in
     let first = λ (t : ℕ × ℤ). worth-wider d d (own_at value t) (t.1 *ℤ num t.0)
-        (worth-multiple d t.1 (value t.0) (num t.0) (own t.0)) in
+    (worth-multiple d t.1 (value t.0) (num t.0) (own t.0)) in
     let pair = λ (t : CrossTerm). worth-times d d (value t.own) (far (t.player, t.var)) (num t.own)
-        (far_num (t.player, t.var)) (own t.own) (other (t.player, t.var)) in
+    (far_num (t.player, t.var)) (own t.own) (other (t.player, t.var)) in
     let second = λ (t : CrossTerm). worth-multiple s t.coef
-        (times (value t.own) (far (t.player, t.var))) (num t.own *ℤ far_num (t.player, t.var))
-        (pair t) in
+    (times (value t.own) (far (t.player, t.var))) (num t.own *ℤ far_num (t.player, t.var))
+    (pair t) in
     let third = λ (t : Other). worth-other d far far_num t (other t.first) (λ at e. other at) in
     let owns = worth-sum_all s player.cost (own_at value) (own_num d num) first in
     let crosses = worth-sum_all s player.cross (cross_at value far) (cross_num num far_num) second
-        in
+    in
     let others = worth-sum_all s player.others (other_at far) (other_num d far_num) third in
     worth-plus s _ _ _ _ (worth-plus s _ _ _ _ owns crosses) others

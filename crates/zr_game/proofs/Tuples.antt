@@ -35,7 +35,7 @@ pub weigh_same : (parts : Strategy) (f g : PointOf → ℤ) → ((x : PointOf) �
     → weigh parts f ≡ weigh parts g
 weigh_same parts f g h =
     sum_list_same parts (λ part. part.weight *ℤ f part.point) (λ part. part.weight *ℤ g part.point)
-        (λ part. ap (λ a. part.weight *ℤ a) (h part.point))
+    (λ part. ap (λ a. part.weight *ℤ a) (h part.point))
 
 pub weigh-add : (parts : Strategy) (f g : PointOf → ℤ)
     → weigh parts (λ x. f x +ℤ g x) ≡ weigh parts f +ℤ weigh parts g
@@ -56,29 +56,29 @@ pub tuples_same : (profile : Profile) (f g : List PointOf → ℤ) → ((t : Lis
 tuples_same [] f g h = h []
 tuples_same (s ∷ ss) f g h =
     weigh_same s (λ x. tuples ss (λ t. f (x ∷ t))) (λ x. tuples ss (λ t. g (x ∷ t)))
-        (λ x. tuples_same ss (λ t. f (x ∷ t)) (λ t. g (x ∷ t)) (λ t. h (x ∷ t)))
+    (λ x. tuples_same ss (λ t. f (x ∷ t)) (λ t. g (x ∷ t)) (λ t. h (x ∷ t)))
 
 pub tuples-add : (profile : Profile) (f g : List PointOf → ℤ)
     → tuples profile (λ t. f t +ℤ g t) ≡ tuples profile f +ℤ tuples profile g
 tuples-add [] f g = refl
 tuples-add (s ∷ ss) f g =
     weigh_same s (λ x. tuples ss (λ t. f (x ∷ t) +ℤ g (x ∷ t)))
-        (λ x. tuples ss (λ t. f (x ∷ t)) +ℤ tuples ss (λ t. g (x ∷ t)))
-        (λ x. tuples-add ss (λ t. f (x ∷ t)) (λ t. g (x ∷ t))) ∙
-        weigh-add s (λ x. tuples ss (λ t. f (x ∷ t))) (λ x. tuples ss (λ t. g (x ∷ t)))
+    (λ x. tuples ss (λ t. f (x ∷ t)) +ℤ tuples ss (λ t. g (x ∷ t)))
+    (λ x. tuples-add ss (λ t. f (x ∷ t)) (λ t. g (x ∷ t))) ∙
+    weigh-add s (λ x. tuples ss (λ t. f (x ∷ t))) (λ x. tuples ss (λ t. g (x ∷ t)))
 
 pub tuples-mul : (profile : Profile) (m : ℤ) (f : List PointOf → ℤ)
     → tuples profile (λ t. f t *ℤ m) ≡ tuples profile f *ℤ m
 tuples-mul [] m f = refl
 tuples-mul (s ∷ ss) m f =
     weigh_same s (λ x. tuples ss (λ t. f (x ∷ t) *ℤ m)) (λ x. tuples ss (λ t. f (x ∷ t)) *ℤ m)
-        (λ x. tuples-mul ss m (λ t. f (x ∷ t))) ∙ weigh-mul s m (λ x. tuples ss (λ t. f (x ∷ t)))
+    (λ x. tuples-mul ss m (λ t. f (x ∷ t))) ∙ weigh-mul s m (λ x. tuples ss (λ t. f (x ∷ t)))
 
 pub tuples-constant : (profile : Profile) (c : ℤ) → tuples profile (λ t. c) ≡ totals profile *ℤ c
 tuples-constant [] c = omega (arith, ints)
 tuples-constant (s ∷ ss) c =
     weigh_same s (λ x. tuples ss (λ t. c)) (λ x. totals ss *ℤ c) (λ x. tuples-constant ss c) ∙
-        weigh-constant s (totals ss *ℤ c) ∙ simp spread refl
+    weigh-constant s (totals ss *ℤ c) ∙ simp spread refl
 
 -- a sum of terms, term by term
 pub tuples-sum : {A : Type 0} (profile : Profile) (ts : List A) (f : A → List PointOf → ℤ)
@@ -87,7 +87,7 @@ pub tuples-sum : {A : Type 0} (profile : Profile) (ts : List A) (f : A → List 
 tuples-sum profile [] f = tuples-constant profile (pos 0) ∙ omega (arith, ints)
 tuples-sum profile (t ∷ ts) f =
     tuples-add profile (f t) (λ points. sum_list ts (λ u. f u points)) ∙
-        ap (λ a. tuples profile (f t) +ℤ a) (tuples-sum profile ts f)
+    ap (λ a. tuples profile (f t) +ℤ a) (tuples-sum profile ts f)
 
 move_last : (a b c : ℤ) → (a *ℤ b) *ℤ c ≡ a *ℤ (c *ℤ b)
 move_last a b c = simp spread refl
@@ -111,13 +111,13 @@ pub alone : (profile : Profile) (j : ℕ) (f : PointOf → ℤ) → j < length p
 alone [] j f h = absurd (omega arith)
 alone (s ∷ ss) zero f h =
     let inner = weigh_same s (λ x. tuples ss (λ t. f x)) (λ x. f x *ℤ totals ss)
-        (λ x. tuples-constant ss (f x) ∙ *ℤ_comm (totals ss) (f x)) ∙ weigh-mul s (totals ss) f in
+    (λ x. tuples-constant ss (f x) ∙ *ℤ_comm (totals ss) (f x)) ∙ weigh-mul s (totals ss) f in
     ap (λ a. a *ℤ total s) inner ∙ move_last (weigh s f) (totals ss) (total s)
 alone (s ∷ ss) (suc j) f h =
     let c = tuples ss (λ points. f (point_of points j)) in
     ap (λ a. a *ℤ total (strategy_of ss j)) (weigh-constant s c) ∙
-        past (total s) c (total (strategy_of ss j)) (weigh (strategy_of ss j) f) (totals ss)
-        (alone ss j f (omega arith))
+    past (total s) c (total (strategy_of ss j)) (weigh (strategy_of ss j) f) (totals ss)
+    (alone ss j f (omega arith))
 
 -- functions of two players' points
 pub apart : (profile : Profile) (i j : ℕ) (f g : PointOf → ℤ) → i ≢ j → i < length profile
@@ -130,22 +130,22 @@ apart (s ∷ ss) zero zero f g n p q = absurd (n refl)
 apart (s ∷ ss) zero (suc j) f g n p q =
     let c = tuples ss (λ points. g (point_of points j)) in
     let inner = weigh_same s (λ x. tuples ss (λ t. f x *ℤ g (point_of t j))) (λ x. f x *ℤ c)
-        (λ x. tuples_same ss (λ t. f x *ℤ g (point_of t j)) (λ t. g (point_of t j) *ℤ f x)
-        (λ t. *ℤ_comm (f x) (g (point_of t j))) ∙ tuples-mul ss (f x) (λ t. g (point_of t j)) ∙
-        *ℤ_comm c (f x)) ∙ weigh-mul s c f in
+    (λ x. tuples_same ss (λ t. f x *ℤ g (point_of t j)) (λ t. g (point_of t j) *ℤ f x)
+    (λ t. *ℤ_comm (f x) (g (point_of t j))) ∙ tuples-mul ss (f x) (λ t. g (point_of t j)) ∙
+    *ℤ_comm c (f x)) ∙ weigh-mul s c f in
     ap (λ a. a *ℤ (total s *ℤ total (strategy_of ss j))) inner ∙
-        first_of_two (weigh s f) (total s) c (total (strategy_of ss j)) (weigh (strategy_of ss j) g)
-        (totals ss) (alone ss j g (omega arith))
+    first_of_two (weigh s f) (total s) c (total (strategy_of ss j)) (weigh (strategy_of ss j) g)
+    (totals ss) (alone ss j g (omega arith))
 apart (s ∷ ss) (suc i) zero f g n p q =
     let c = tuples ss (λ points. f (point_of points i)) in
     let inner = weigh_same s (λ x. tuples ss (λ t. f (point_of t i) *ℤ g x)) (λ x. g x *ℤ c)
-        (λ x. tuples-mul ss (g x) (λ t. f (point_of t i)) ∙ *ℤ_comm c (g x)) ∙ weigh-mul s c g in
+    (λ x. tuples-mul ss (g x) (λ t. f (point_of t i)) ∙ *ℤ_comm c (g x)) ∙ weigh-mul s c g in
     ap (λ a. a *ℤ (total (strategy_of ss i) *ℤ total s)) inner ∙
-        second_of_two (weigh s g) (total s) c (total (strategy_of ss i))
-        (weigh (strategy_of ss i) f) (totals ss) (alone ss i f (omega arith))
+    second_of_two (weigh s g) (total s) c (total (strategy_of ss i))
+    (weigh (strategy_of ss i) f) (totals ss) (alone ss i f (omega arith))
 apart (s ∷ ss) (suc i) (suc j) f g n p q =
     let c = tuples ss (λ points. f (point_of points i) *ℤ g (point_of points j)) in
     ap (λ a. a *ℤ (total (strategy_of ss i) *ℤ total (strategy_of ss j))) (weigh-constant s c) ∙
-        past (total s) c (total (strategy_of ss i) *ℤ total (strategy_of ss j))
-        (weigh (strategy_of ss i) f *ℤ weigh (strategy_of ss j) g) (totals ss)
-        (apart ss i j f g (λ e. n (ap suc e)) (omega arith) (omega arith))
+    past (total s) c (total (strategy_of ss i) *ℤ total (strategy_of ss j))
+    (weigh (strategy_of ss i) f *ℤ weigh (strategy_of ss j) g) (totals ss)
+    (apart ss i j f g (λ e. n (ap suc e)) (omega arith) (omega arith))

@@ -52,7 +52,7 @@ IsWholePoint x = (v : ℕ) → v < length x.num → IsMultiple (num_of x v) x.de
 pub exact_quotient : (n d : ℤ) → IsMultiple n d → int_div n d *ℤ d ≡ n
 exact_quotient n d m =
     quot_exact n d (subst (λ z. unsigned_abs d ∣ z) (sym (unsigned_abs-mul m.0 d) ∙
-        ap unsigned_abs (sym m.1)) (dvd-mul_left (unsigned_abs d) (unsigned_abs m.0)))
+    ap unsigned_abs (sym m.1)) (dvd-mul_left (unsigned_abs d) (unsigned_abs m.0)))
 
 pub same_whole : (x : PointOf) → (pos 0) <ℤ x.den → IsWholePoint x → IsSamePoint x (whole_of x)
 same_whole x positive whole = record {

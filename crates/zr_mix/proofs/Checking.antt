@@ -50,10 +50,13 @@ module _ (game : GameOf) (form : IsGame game) (profile : Profile) (valid : IsPro
       let right = of_rest.lowest.ratio.positive in
       let exact = add_of_exact value others f left right made in
       let parts = plus_same value others along r of_value.same of_rest.same in
-      let sum : IsSame f (plus value others) = record { left = exact.lowest.ratio.positive;
-          right = mul_positive value.den others.den left right; cross = exact.same } in
+      let sum : IsSame f (plus value others) = record {
+        left = exact.lowest.ratio.positive;
+        right = mul_positive value.den others.den left right;
+        cross = exact.same;
+      } in
       let by_means = same_sym cost (plus along r)
-          (at_mean game profile valid i player is (form.players i player is)) in
+      (at_mean game profile valid i player is (form.players i player is)) in
       record {
         lowest = exact.lowest;
         same = same_through f (plus along r) cost
@@ -68,38 +71,38 @@ module _ (game : GameOf) (form : IsGame game) (profile : Profile) (valid : IsPro
         let s = claim.are_slopes.each v h in
         let len = claim.are_slopes.len in
         worth_of_same claim.by (item_of claim.slopes v) (slope player profile v)
-            (neg_ℤ (slice_index_or left v (pos 0)))
-            (slope_den game profile valid i player is (form.players i player is) v) s.same.cross
-            (claim_worth claim.by (neg_ℤ (slice_index_or left v (pos 0))) (item_of claim.slopes v)
-            s.same.left (claim.claim.lefts v (omega (arith, h, len))).cross)
+        (neg_ℤ (slice_index_or left v (pos 0)))
+        (slope_den game profile valid i player is (form.players i player is) v) s.same.cross
+        (claim_worth claim.by (neg_ℤ (slice_index_or left v (pos 0))) (item_of claim.slopes v)
+        s.same.left (claim.claim.lefts v (omega (arith, h, len))).cross)
 
     at_point : Worth (claim.by *ℤ x.den) (along_slope player profile (value_of x))
         (sum_to (length player.vars) (λ v. neg_ℤ (slice_index_or left v (pos 0)) *ℤ num_of x v))
     at_point =
         worth-below (claim.by *ℤ x.den) (length player.vars)
-            (λ v. times (slope player profile v) (value_of x v))
-            (λ v. neg_ℤ (slice_index_or left v (pos 0)) *ℤ num_of x v)
-            (λ v h. worth-times claim.by x.den (slope player profile v) (value_of x v)
-            (neg_ℤ (slice_index_or left v (pos 0))) (num_of x v) (slope_worth v h)
-            (record { below = feasible.point; equal = refl }))
+        (λ v. times (slope player profile v) (value_of x v))
+        (λ v. neg_ℤ (slice_index_or left v (pos 0)) *ℤ num_of x v)
+        (λ v h. worth-times claim.by x.den (slope player profile v) (value_of x v)
+        (neg_ℤ (slice_index_or left v (pos 0))) (num_of x v) (slope_worth v h)
+        (record { below = feasible.point; equal = refl }))
 
     at_own : Worth (claim.by *ℤ x.den) (along_slope player profile (mean (strategy_of profile i)))
         (neg_ℤ right *ℤ x.den)
     at_own =
         worth-wider claim.by x.den (along_slope player profile (mean (strategy_of profile i)))
-            (neg_ℤ right) (worth_of_same claim.by claim.value
-            (along_slope player profile (mean (strategy_of profile i))) (neg_ℤ right) own_den
-            claim.is_value.same.cross (claim_worth claim.by (neg_ℤ right) claim.value
-            claim.is_value.same.left claim.claim.rights.cross))
+        (neg_ℤ right) (worth_of_same claim.by claim.value
+        (along_slope player profile (mean (strategy_of profile i))) (neg_ℤ right) own_den
+        claim.is_value.same.cross (claim_worth claim.by (neg_ℤ right) claim.value
+        claim.is_value.same.left claim.claim.rights.cross))
 
     turned : sum_to (length player.vars) (λ v. neg_ℤ (slice_index_or left v (pos 0)) *ℤ num_of x v)
         ≡ negsuc 0 *ℤ sum_to (length player.vars) (λ v. slice_index_or left v (pos 0) *ℤ num_of x v)
     turned =
         sum_to_same (length player.vars) (λ v. neg_ℤ (slice_index_or left v (pos 0)) *ℤ num_of x v)
-            (λ v. negsuc 0 *ℤ (slice_index_or left v (pos 0) *ℤ num_of x v))
-            (λ v h. neg-mul_left (slice_index_or left v (pos 0)) (num_of x v) ∙
-            omega (arith, ints)) ∙ sum_to-mul (length player.vars) (negsuc 0)
-            (λ v. slice_index_or left v (pos 0) *ℤ num_of x v)
+        (λ v. negsuc 0 *ℤ (slice_index_or left v (pos 0) *ℤ num_of x v))
+        (λ v h. neg-mul_left (slice_index_or left v (pos 0)) (num_of x v) ∙
+        omega (arith, ints)) ∙ sum_to-mul (length player.vars) (negsuc 0)
+        (λ v. slice_index_or left v (pos 0) *ℤ num_of x v)
 
     scale : (pos 0) <ℤ (claim.by *ℤ x.den)
     scale = mul_positive claim.by x.den claim.claim.common.positive feasible.point
@@ -109,19 +112,19 @@ module _ (game : GameOf) (form : IsGame game) (profile : Profile) (valid : IsPro
         (along_slope player profile (value_of x))
     no_gain holds =
         at_most (claim.by *ℤ x.den) (along_slope player profile (mean (strategy_of profile i)))
-            (along_slope player profile (value_of x)) (neg_ℤ right *ℤ x.den)
-            (sum_to (length player.vars) (λ v. neg_ℤ (slice_index_or left v (pos 0)) *ℤ num_of x v))
-            scale at_own at_point (let m = neg-mul_left right x.den in
-            rw (turned, m) (omega (arith, ints, holds)))
+        (along_slope player profile (value_of x)) (neg_ℤ right *ℤ x.den)
+        (sum_to (length player.vars) (λ v. neg_ℤ (slice_index_or left v (pos 0)) *ℤ num_of x v))
+        scale at_own at_point (let m = neg-mul_left right x.den in
+        rw (turned, m) (omega (arith, ints, holds)))
 
     pub row_holds : IsAtMost (along_slope player profile (mean (strategy_of profile i)))
         (along_slope player profile (value_of x)) → BoundHolds player x (bound_with left right)
     row_holds below =
         let le = of_at_most (claim.by *ℤ x.den)
-            (along_slope player profile (mean (strategy_of profile i)))
-            (along_slope player profile (value_of x)) (neg_ℤ right *ℤ x.den)
-            (sum_to (length player.vars) (λ v. neg_ℤ (slice_index_or left v (pos 0)) *ℤ num_of x v))
-            scale at_own at_point below in
+        (along_slope player profile (mean (strategy_of profile i)))
+        (along_slope player profile (value_of x)) (neg_ℤ right *ℤ x.den)
+        (sum_to (length player.vars) (λ v. neg_ℤ (slice_index_or left v (pos 0)) *ℤ num_of x v))
+        scale at_own at_point below in
         let m = neg-mul_left right x.den in
         let h = rw (turned, m) at le in
         omega (arith, ints, h)
@@ -130,11 +133,11 @@ pub enough : (game : GameOf) → IsGame game → (profile : Profile) → IsProfi
     → HasClaims game profile → IsEquilibrium game profile
 enough game form profile valid claims =
     (equilibria game form profile valid).1 (λ i player is x feasible. let c = claims i player is in
-        no_gain game form profile valid i player is c.0 c.1 c.2.0 x feasible (c.2.1 x feasible))
+    no_gain game form profile valid i player is c.0 c.1 c.2.0 x feasible (c.2.1 x feasible))
 
 pub needed : (game : GameOf) → IsGame game → (profile : Profile) → IsEquilibrium game profile
     → (i : ℕ) (player : PlayerOf) → IsPlayer game i player → (left : List ℤ) (right : ℤ)
     → IsClaimOf player i profile left right → ClaimHolds player left right
 needed game form profile equilibrium i player is left right claim x feasible =
     row_holds game form profile equilibrium.valid i player is left right claim x feasible
-        ((equilibria game form profile equilibrium.valid).0 equilibrium i player is x feasible)
+    ((equilibria game form profile equilibrium.valid).0 equilibrium i player is x feasible)

@@ -48,6 +48,8 @@ module _ (slope : List Fraction) (value : Fraction) where
       → IsNegatedOver m (item_of slope v) (get_or left v (pos 0))) → (x : Result ℤ Wide)
       → IfOk x (IsNegatedOver m value)
       → IfOk x (λ right. (n : ℤ) × IsClaim slope value n left right)
-  claimed m least left len each (Ok right) h = (m,
-      record { common = least; len = len; lefts = each; rights = h })
+  claimed m least left len each (Ok right) h = (
+    m,
+    record { common = least; len = len; lefts = each; rights = h },
+  )
   claimed m least left len each (Err w) h = tt

@@ -99,7 +99,7 @@ module _ {A : Type 0} (make : A → Result Fraction Wide) (g : A → Fraction) (
     wide_onward w made =
         let x = get_or xs i d in
         before.steps ∙ ap (λ ys. sum_made make sum (filter test ys)) (drop-cons xs i d here) ∙
-            step_wide make sum x (filter test (drop (suc i) xs)) (test x) w made
+        step_wide make sum x (filter test (drop (suc i) xs)) (test x) w made
 
   pub all_onward : (i : ℕ) (sum : Fraction) → length xs ≤ i → Onward make g test start xs i sum
       → (sum_made make start (filter test xs) ≡ Ok sum) ×
@@ -107,7 +107,8 @@ module _ {A : Type 0} (make : A → Result Fraction Wide) (g : A → Fraction) (
   all_onward i sum done all =
       let none = drop_of_length-le xs done in
       let last = ap (λ (ys : List A). plus sum (sum_over (filter test ys) g)) none ∙
-          plus_none sum in
-      (all.steps ∙ ap (λ (ys : List A). sum_made make sum (filter test ys)) none,
-          all.exact sum (subst (λ (z : Fraction). IsSame sum z) (sym last)
-          (same_refl sum all.lowest.ratio.positive)))
+      plus_none sum in (
+        all.steps ∙ ap (λ (ys : List A). sum_made make sum (filter test ys)) none,
+        all.exact sum (subst (λ (z : Fraction). IsSame sum z) (sym last)
+            (same_refl sum all.lowest.ratio.positive)),
+      )

@@ -23,7 +23,7 @@ use Rattle.zr_mix.specs.Steps.{multiple_steps}
 pub divides_multiple : (n d : ℤ) → IsMultiple n d → unsigned_abs d ∣ unsigned_abs n
 divides_multiple n d m =
     subst (λ x. unsigned_abs d ∣ x) (sym (ap unsigned_abs m.1 ∙ unsigned_abs-mul m.0 d))
-        (dvd-mul_left (unsigned_abs d) (unsigned_abs m.0))
+    (dvd-mul_left (unsigned_abs d) (unsigned_abs m.0))
 
 multiple_divided : (n d : ℤ) → unsigned_abs d ∣ unsigned_abs n → IsMultiple n d
 multiple_divided n d h = (int_div n d, sym (quot_exact n d h))
@@ -66,9 +66,9 @@ more_lcm fs i d m r here before lcm =
     let x = get_or fs i d in
     let more = take_more fs i d here in
     let all : All (IsMultipleOf r) (take i fs ++ x ∷ []) = All-append (IsMultipleOf r) (take i fs)
-        (x ∷ []) (λ k e h. multiple_trans r m (get_or (take i fs) k e).den lcm.first
-        (before.each k e h)) (All-cons (IsMultipleOf r) x [] lcm.second (All-nil (IsMultipleOf r)))
-        in
+    (x ∷ []) (λ k e h. multiple_trans r m (get_or (take i fs) k e).den lcm.first
+    (before.each k e h)) (All-cons (IsMultipleOf r) x [] lcm.second (All-nil (IsMultipleOf r)))
+    in
     record {
       positive = lcm.positive;
       each = subst (All (IsMultipleOf r)) (sym more) all;
@@ -109,8 +109,10 @@ least_multiple slope value m r before lcm = record {
 pub one_step : (m r : ℤ) (f : Fraction) (fs : List Fraction) → multiple_steps m (f ∷ []) ≡ Ok r
     → multiple_steps m (f ∷ fs) ≡ multiple_steps r fs
 one_step m r f fs e = onward
-    (cross_of (m, int_div f.den (pos (gcd_of (unsigned_abs m) (unsigned_abs f.den)))) (pos 0,
-    pos 0)) e
+    (cross_of (m, int_div f.den (pos (gcd_of (unsigned_abs m) (unsigned_abs f.den)))) (
+      pos 0,
+      pos 0,
+    )) e
   where
     onward : (x : Result ℤ Wide) → (x >>= λ z. Ok z) ≡ Ok r
         → (x >>= λ z. multiple_steps z fs) ≡ multiple_steps r fs
@@ -120,8 +122,10 @@ one_step m r f fs e = onward
 pub step_wide : (m : ℤ) (w : Wide) (f : Fraction) (fs : List Fraction)
     → multiple_steps m (f ∷ []) ≡ Err w → multiple_steps m (f ∷ fs) ≡ Err w
 step_wide m w f fs e = onward
-    (cross_of (m, int_div f.den (pos (gcd_of (unsigned_abs m) (unsigned_abs f.den)))) (pos 0,
-    pos 0)) e
+    (cross_of (m, int_div f.den (pos (gcd_of (unsigned_abs m) (unsigned_abs f.den)))) (
+      pos 0,
+      pos 0,
+    )) e
   where
     onward : (x : Result ℤ Wide) → (x >>= λ z. Ok z) ≡ Err w
         → (x >>= λ z. multiple_steps z fs) ≡ Err w
@@ -129,11 +133,15 @@ step_wide m w f fs e = onward
     onward (Err u) h = let s : u ≡ w = cc in ap Err s
 
 pub step_only : (m : ℤ) (f : Fraction)
-    → cross_of (m, int_div f.den (pos (gcd_of (unsigned_abs m) (unsigned_abs f.den)))) (pos 0,
-    pos 0) ≡ multiple_steps m (f ∷ [])
+    → cross_of (m, int_div f.den (pos (gcd_of (unsigned_abs m) (unsigned_abs f.den)))) (
+      pos 0,
+      pos 0,
+    ) ≡ multiple_steps m (f ∷ [])
 step_only m f = onward
-    (cross_of (m, int_div f.den (pos (gcd_of (unsigned_abs m) (unsigned_abs f.den)))) (pos 0,
-    pos 0))
+    (cross_of (m, int_div f.den (pos (gcd_of (unsigned_abs m) (unsigned_abs f.den)))) (
+      pos 0,
+      pos 0,
+    ))
   where
     onward : (x : Result ℤ Wide) → x ≡ (x >>= λ z. Ok z)
     onward (Ok z) = refl
@@ -142,8 +150,10 @@ step_only m f = onward
 pub multiple_steps-append : (m : ℤ) (xs ys : List Fraction)
     → multiple_steps m (xs ++ ys) ≡ (multiple_steps m xs >>= λ r. multiple_steps r ys)
 multiple_steps-append m [] ys = refl
-multiple_steps-append m (f ∷ fs) ys = onward (cross_of (m,
-    int_div f.den (pos (gcd_of (unsigned_abs m) (unsigned_abs f.den)))) (pos 0, pos 0))
+multiple_steps-append m (f ∷ fs) ys = onward (cross_of (
+  m,
+  int_div f.den (pos (gcd_of (unsigned_abs m) (unsigned_abs f.den))),
+) (pos 0, pos 0))
     (λ z. multiple_steps-append z fs ys)
   where
     onward : (x : Result ℤ Wide)
@@ -182,8 +192,10 @@ module _ (fs : List Fraction) (i : ℕ) (d : Fraction) (here : i < length fs) (m
 
 pub all_carried : (fs : List Fraction) (i : ℕ) (m : ℤ) → length fs ≤ i → Carried fs i m
     → (multiple_steps (pos 1) fs ≡ Ok m) × IsLcmOf fs m
-all_carried fs i m h c = (c.steps ∙ ap (multiple_steps m) (drop_of_length-le fs h),
-    subst (λ xs. IsLcmOf xs m) (take_all i fs h) c.lcm)
+all_carried fs i m h c = (
+  c.steps ∙ ap (multiple_steps m) (drop_of_length-le fs h),
+  subst (λ xs. IsLcmOf xs m) (take_all i fs h) c.lcm,
+)
 
 -- a step that was made
 pub step_lcm : (m : ℤ) (f : Fraction) (by over : ℤ) → (pos 0) <ℤ m → (pos 0) <ℤ f.den

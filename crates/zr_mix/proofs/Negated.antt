@@ -39,8 +39,8 @@ pub negated_made : (m : ℤ) (d : Fraction) (all xs : List Fraction) (k : ℕ)
 negated_made m d all [] k h = refl
 negated_made m d all (x ∷ xs) k h =
     let here : get_or all k d ≡ x = ap (λ n. get_or all n d) (let z : k ≡ k + 0 = omega arith in
-        z) ∙ h 0 (omega arith) in
+    z) ∙ h 0 (omega arith) in
     let rest = negated_made m d all xs (k + 1)
-        (λ v b. ap (λ n. get_or all n d) (let z : k + 1 + v ≡ k + suc v = omega arith in z) ∙
-        h (suc v) (omega arith)) in
+    (λ v b. ap (λ n. get_or all n d) (let z : k + 1 + v ≡ k + suc v = omega arith in z) ∙
+    h (suc v) (omega arith)) in
     rw (here, rest) refl

@@ -40,26 +40,26 @@ place_below (p ∷ ps) (suc k) v player is h = let r = place_below ps k v player
 
 module _ (game : GameOf) (form : IsGame game) (i : ℕ) (player : PlayerOf)
     (is : IsPlayer game i player) (means : List Fraction) (len : length means ≡ var_total game)
-    where
-  place_there : (k v : ℕ) → k < length game → HasVar game k v → HasMean game means (k, v)
-  place_there k v player has =
-      let other = at_number game k player in
-      let place = place_below game k v other.0 other.1 (has other.0 other.1) in
-      (player, omega (arith, place, len))
+  where
+    place_there : (k v : ℕ) → k < length game → HasVar game k v → HasMean game means (k, v)
+    place_there k v player has =
+        let other = at_number game k player in
+        let place = place_below game k v other.0 other.1 (has other.0 other.1) in
+        (player, omega (arith, place, len))
 
-  pub mean_there : All (λ t. HasMean game means (t.player, t.var)) player.cross
-  mean_there k d h =
-      let t = get_or player.cross k d in
-      let f = (form.players i player is).cross k d h in
-      place_there t.player t.var f.player f.var
+    pub mean_there : All (λ t. HasMean game means (t.player, t.var)) player.cross
+    mean_there k d h =
+        let t = get_or player.cross k d in
+        let f = (form.players i player is).cross k d h in
+        place_there t.player t.var f.player f.var
 
-  pub means_there : All (HasMeans game means) player.others
-  means_there k d h =
-      let t = get_or player.others k d in
-      let f = (form.players i player is).others k d h in
-      let at = λ (at : ℕ × ℕ) (e : t.second ≡ Some at). let g = (f.second at e).1 in
-          place_there at.0 at.1 g.player g.var in
-      (place_there t.first.0 t.first.1 f.first.player f.first.var, at)
+    pub means_there : All (HasMeans game means) player.others
+    means_there k d h =
+        let t = get_or player.others k d in
+        let f = (form.players i player is).others k d h in
+        let at = λ (at : ℕ × ℕ) (e : t.second ≡ Some at). let g = (f.second at e).1 in
+        place_there at.0 at.1 g.player g.var in
+        (place_there t.first.0 t.first.1 f.first.player f.first.var, at)
 
 -- the variables of the players from number j on
 pub one_player : (players : List Player) (j : ℕ) (x : Player) → j < length players
@@ -96,7 +96,7 @@ module _ (game : GameOf) (form : IsGame game) (i : ℕ) (player : PlayerOf)
       let other = at_number game t.player f.player in
       let m = are t.player other.0 other.1 t.var (f.var other.0 other.1) in
       multiple_same t.coef (mean_in game means (t.player, t.var))
-          (mean (strategy_of profile t.player) t.var) m.same
+      (mean (strategy_of profile t.player) t.var) m.same
 
   pub at_means : (v : ℕ) (f : Fraction) → IsReduced f (slope_at game player means v)
       → IsReduced f (slope player profile v)
@@ -108,10 +108,10 @@ module _ (game : GameOf) (form : IsGame game) (i : ℕ) (player : PlayerOf)
       let g = term_at game means in
       let h = λ (t : CrossTerm). times (whole t.coef) (mean (strategy_of profile t.player) t.var) in
       let forms = each_filter Form test player.cross
-          (each_of_all Form player.cross (form.players i player is).cross) in
+      (each_of_all Form player.cross (form.players i player is).cross) in
       let sums = sum_same g h ts (each_weaker Form (λ t. IsSame (g t) (h t)) ts term_same forms) in
       let all = plus_same c (sum_over ts g) c (sum_over ts h) (same_refl c (omega (arith, ints)))
-          sums in
+      sums in
       record {
         lowest = reduced.lowest;
         same = same_through f (plus c (sum_over ts g)) (plus c (sum_over ts h)) reduced.same all;
@@ -120,15 +120,17 @@ module _ (game : GameOf) (form : IsGame game) (i : ℕ) (player : PlayerOf)
   pub all_at_means : (r : Result ⊤ Wide) (out : List Fraction) (n : ℕ)
       → OnOk r (AreReduced out n (slope_at game player means))
       → OnOk r (AreReduced out n (slope player profile))
-  all_at_means (Ok u) out n all = record { len = all.len;
-      each = λ v h. at_means v (item_of out v) (all.each v h) }
+  all_at_means (Ok u) out n all = record {
+    len = all.len;
+    each = λ v h. at_means v (item_of out v) (all.each v h);
+  }
   all_at_means (Err w) out n all = tt
 
   other_there : (t : Other) → IsOtherForm game i t
       → IsSame (other_at (mean_in game means) t) (other_at (mean_at_place profile) t)
   other_there t f =
       other_same (mean_in game means) (mean_at_place profile) t (at_place t.first f.first)
-          (λ at e. at_place at (f.second at e).1)
+      (λ at e. at_place at (f.second at e).1)
     where
       at_place : (at : ℕ × ℕ) → IsOthersVar game i at
           → IsSame (mean_in game means at) (mean_at_place profile at)
@@ -145,7 +147,7 @@ module _ (game : GameOf) (form : IsGame game) (i : ℕ) (player : PlayerOf)
       let h = other_at (mean_at_place profile) in
       let forms = each_of_all Form player.others (form.players i player is).others in
       let sums = sum_same g h player.others (each_weaker Form (λ t. IsSame (g t) (h t))
-          player.others other_there forms) in
+      player.others other_there forms) in
       record {
         lowest = reduced.lowest;
         same = same_through f (rest_at player (mean_in game means)) (rest player profile)
@@ -163,7 +165,7 @@ pub only_term : {A : Type 0} (b : Bool) → b ≡ true → (g : A → Fraction) 
     → IsSame f (plus sum (g t)) → IsSame f (plus sum (sum_over (cond b (t ∷ []) []) g))
 only_term {A} b e g t f sum h =
     subst (λ (y : Bool). IsSame f (plus sum (sum_over (cond y (t ∷ []) []) g))) (sym e)
-        (subst (λ (z : Fraction). IsSame f (plus sum z)) (sym (plus_none (g t))) h)
+    (subst (λ (z : Fraction). IsSame f (plus sum z)) (sym (plus_none (g t))) h)
 
 -- the sum with the one term, which passes
 pub only_made : {A : Type 0} (make : A → Result Fraction Wide) (b : Bool) → b ≡ true

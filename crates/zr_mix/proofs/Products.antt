@@ -24,16 +24,20 @@ pub record ValueOf (slope mean : List Fraction) (v : ℕ) (sum : Fraction) : Typ
 
 module _ (slope mean : List Fraction) where
   pub none_of : ValueOf slope mean 0 (whole (pos 0))
-  none_of = record { summed = none_summed product_made product_of (whole (pos 0)) zero_lowest;
-      exact = same_refl (whole (pos 0)) (omega (arith, ints)) }
+  none_of = record {
+    summed = none_summed product_made product_of (whole (pos 0)) zero_lowest;
+    exact = same_refl (whole (pos 0)) (omega (arith, ints));
+  }
 
   module _ (v : ℕ) (sum : Fraction) (before : ValueOf slope mean v sum)
       (lens : length slope ≡ length mean) (here : v < length slope) where
     in_zip : v < length (zip slope mean)
     in_zip = let l = length-zip slope mean in omega (arith, l)
 
-    item_is : get_or (zip slope mean) v (whole (pos 0), whole (pos 0)) ≡ (item_of slope v,
-        item_of mean v)
+    item_is : get_or (zip slope mean) v (whole (pos 0), whole (pos 0)) ≡ (
+      item_of slope v,
+      item_of mean v,
+    )
     item_is = get_or-zip slope mean v (whole (pos 0), whole (pos 0)) here (omega arith)
 
     pub more_of : (a next : Fraction) → Ok a ≡ mul_of (item_of slope v) (item_of mean v)
@@ -46,7 +50,7 @@ module _ (slope mean : List Fraction) where
         let n : suc v ≡ v + 1 = omega arith in
         let zeros : Fraction × Fraction = (whole (pos 0), whole (pos 0)) in
         let same_item = subst (λ (p : Fraction × Fraction). IsSame a (product_of p)) (sym item_is)
-            same in
+        same in
         record {
           summed = more_summed product_made product_of (whole (pos 0)) (zip slope mean) v zeros
               in_zip sum before.summed a next (ap product_made item_is ∙ sym made) same_item
@@ -87,7 +91,9 @@ value_along slope mean n f g left right r lowest same =
     let products = λ (v : ℕ). times (item_of slope v) (item_of mean v) in
     let values = λ (v : ℕ). times (f v) (g v) in
     let one = λ (v : ℕ) (h : v < n). times_same (item_of slope v) (item_of mean v) (f v) (g v)
-        (left.each v h).same (right.each v h).same in
+    (left.each v h).same (right.each v h).same in
     let all = sum_below_same n products values one in
-    record { lowest = lowest;
-        same = same_through r (sum_below n products) (sum_below n values) same all }
+    record {
+      lowest = lowest;
+      same = same_through r (sum_below n products) (sum_below n values) same all;
+    }

@@ -11,7 +11,7 @@ scaled_num : (fn fd wn wd w t n d : ℤ) → (pos 0) <ℤ t
 scaled_num fn fd wn wd w t n d positive e =
     let s = simp spread at e in
     cancel (fn *ℤ ((wd *ℤ d) *ℤ t)) ((wn *ℤ d +ℤ (w *ℤ n) *ℤ wd) *ℤ fd) t positive
-        (simp spread (omega (arith, ints, s)))
+    (simp spread (omega (arith, ints, s)))
 
 -- one share more
 pub one_share : (f sum x : Fraction) (w t : ℤ) → (pos 0) <ℤ t → (pos 0) <ℤ sum.den
@@ -20,7 +20,7 @@ pub one_share : (f sum x : Fraction) (w t : ℤ) → (pos 0) <ℤ t → (pos 0) 
 one_share f sum x w t positive above below e =
     let one : pos 1 *ℤ x.den ≡ x.den = omega (arith, ints) in
     let den : (pos 0) <ℤ ((sum.den *ℤ (pos 1 *ℤ x.den)) *ℤ t) = rw one
-        (mul_positive (sum.den *ℤ x.den) t (mul_positive sum.den x.den above below) positive) in
+    (mul_positive (sum.den *ℤ x.den) t (mul_positive sum.den x.den above below) positive) in
     record {
       left = e.left;
       right = den;

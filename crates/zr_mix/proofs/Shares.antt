@@ -67,14 +67,17 @@ value_den : (total : ℤ) → (pos 0) <ℤ total → (f x : Fraction) (w : ℤ)
     → IsSame f (times (ratio w total) x) → (pos 0) <ℤ x.den
 value_den total positive f x w same =
     positive_factor x.den total (subst (λ z. (pos 0) <ℤ z) (*ℤ_comm total x.den) same.right)
-        positive
+    positive
 
 module _ (total : ℤ) (positive : (pos 0) <ℤ total) (v : ℕ) where
   pub none_of : MeanOf total v [] (whole (pos 0))
   none_of = record {
     summed = none_summed (share_made total v) (share_value total v) (whole (pos 0)) zero_lowest;
-    mean = record { left = omega (arith, ints);
-        right = mul_positive (pos 1) total (omega (arith, ints)) positive; cross = zero total };
+    mean = record {
+      left = omega (arith, ints);
+      right = mul_positive (pos 1) total (omega (arith, ints)) positive;
+      cross = zero total;
+    };
   }
     where
       zero : (t : ℤ) → HaveSameCross (whole (pos 0)) (over (whole (pos 0)) t)

@@ -31,5 +31,5 @@ ClaimHolds player left right = (x : PointOf) → IsFeasible player x
 abbrev pub HasClaims : GameOf → Profile → Type 0
 HasClaims game profile =
     (i : ℕ) (player : PlayerOf) → IsPlayer game i player
-        → (left : List ℤ) × (right : ℤ) × (IsClaimOf player i profile left right ×
-        ClaimHolds player left right)
+    → (left : List ℤ) × (right : ℤ) × (IsClaimOf player i profile left right ×
+    ClaimHolds player left right)

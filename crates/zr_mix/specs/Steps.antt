@@ -42,7 +42,7 @@ slope_term game means t = mul_of (whole t.coef) (mean_in game means (t.player, t
 abbrev pub slope_steps : GameOf → PlayerOf → List Fraction → ℕ → Result Fraction Wide
 slope_steps game player means v =
     sum_made (slope_term game means) (whole (coef_at player.cost v))
-        (filter (λ t. t.own == v) player.cross)
+    (filter (λ t. t.own == v) player.cross)
 
 -- a times the mean of the variable at the place, if there is one
 abbrev pub times_mean : GameOf → List Fraction → Fraction → Option (ℕ × ℕ) → Result Fraction Wide
@@ -68,7 +68,7 @@ abbrev pub multiple_steps : ℤ → List Fraction → Result ℤ Wide
 multiple_steps m [] = Ok m
 multiple_steps m (f ∷ fs) =
     cross_of (m, int_div f.den (pos (gcd_of (unsigned_abs m) (unsigned_abs f.den)))) (pos 0, pos 0)
-        >>= λ r. multiple_steps r fs
+    >>= λ r. multiple_steps r fs
 
 -- the negated number over the common multiple m
 abbrev pub negated_over : ℤ → Fraction → Result ℤ Wide

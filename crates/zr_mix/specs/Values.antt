@@ -52,7 +52,7 @@ term_at game means t = times (whole t.coef) (mean_in game means (t.player, t.var
 abbrev pub slope_at : GameOf → PlayerOf → List Fraction → ℕ → Fraction
 slope_at game player means v =
     plus (whole (coef_at player.cost v)) (sum_over (filter (λ t. t.own == v) player.cross)
-        (term_at game means))
+    (term_at game means))
 
 -- the mean of the variable at the place is in the list
 abbrev pub HasMean : GameOf → List Fraction → ℕ × ℕ → Type 0

@@ -38,7 +38,7 @@ returns-clause-exact c player is =
     let own = is_player ((goal.at.returns-clause-exact c).After-index-player) in
     let s = one game c.args.i (player_of c.index-player.result.now) player own is in
     subst (λ (p : PlayerOf). IfOk r (λ f. IsSame f (cost_of p c.args.i points))) s
-        c.player_cost.ensures.exact
+    c.player_cost.ensures.exact
 
 pub returns-clause-steps : goal.returns-clause-steps
 returns-clause-steps c player is =

@@ -19,5 +19,5 @@ returns-clause-exact c =
     let first = subst (λ (p : PointOf). IsSame a (own_at (value_of p) (t.own, t.coef))) x own in
     let r = c.times_value_at.result in
     let second = subst (λ (p : PointOf). IfOk r (λ f. IsSame f (times a (value_of p t.var)))) y
-        c.times_value_at.ensures.exact in
+    c.times_value_at.ensures.exact in
     both_exact c.args.i points t a r first second

@@ -47,7 +47,7 @@ returns-in-Some-clause-steps c =
     let two = c.times_value_at.ensures.steps in
     let r = c.times_value_at.result in
     subst (λ (p : PointOf). r ≡ times_value first p at.1) y two ∙
-        other_made t at first c.in-Some.is points one
+    other_made t at first c.in-Some.is points one
 
 pub returns-in-Some-clause-exact : goal.returns-in-Some-clause-exact
 returns-in-Some-clause-exact c =
@@ -60,8 +60,8 @@ returns-in-Some-clause-exact c =
     let y = second_read c in
     let same = simp to_z-of_z at c.in_ok-first.ensures.exact in
     let one = subst (λ (p : PointOf). IsSame first (own_at (value_of p) (t.first.1, t.coef))) x same
-        in
+    in
     let r = c.times_value_at.result in
     let two = subst (λ (p : PointOf). IfOk r (λ f. IsSame f (times first (value_of p at.1)))) y
-        c.times_value_at.ensures.exact in
+    c.times_value_at.ensures.exact in
     other_exact t at first c.in-Some.is (value_at_place points) r one two

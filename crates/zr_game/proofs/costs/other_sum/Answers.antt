@@ -26,8 +26,8 @@ returns-in_err-term-clause-steps c =
     let p = err_from_is_err_and c.from_residual.result c.from_residual.ensures.1 in
     let made = sym c.in_err-term.ensures.steps in
     rw (p.1, p.2)
-        (sym (wide_term make value c.args.start c.args.others.now l.t-index none c.loop-t-test.true
-        l.sum l.invariant _ made))
+    (sym (wide_term make value c.args.start c.args.others.now l.t-index none c.loop-t-test.true
+    l.sum l.invariant _ made))
 
 pub returns-in_err-sum-clause-steps : goal.returns-in_err-sum-clause-steps
 returns-in_err-sum-clause-steps c =
@@ -35,12 +35,12 @@ returns-in_err-sum-clause-steps c =
     let value = other_value c.args.points.now in
     let l = c.loop-t in
     let p = err_from_is_err_and c.from_residual-in_err-sum.result
-        c.from_residual-in_err-sum.ensures.1 in
+    c.from_residual-in_err-sum.ensures.1 in
     let made = sym c.in_ok-term.ensures.steps in
     let adds = sym c.in_err-sum.ensures.steps in
     rw (p.1, p.2)
-        (sym (wide_sum make value c.args.start c.args.others.now l.t-index none c.loop-t-test.true
-        l.sum l.invariant c.in_ok-term.term _ made adds))
+    (sym (wide_sum make value c.args.start c.args.others.now l.t-index none c.loop-t-test.true
+    l.sum l.invariant c.in_ok-term.term _ made adds))
 
 pub loop-t-preserved : goal.loop-t-preserved
 loop-t-preserved c =
@@ -50,8 +50,8 @@ loop-t-preserved c =
     let term = c.in_ok-term in
     let sum = c.in_ok-sum in
     more_summed make value c.args.start c.args.others.now l.t-index none c.loop-t-test.true l.sum
-        l.invariant term.term sum.sum (sym term.ensures.steps) term.ensures.exact
-        (sym sum.ensures.steps) sum.ensures.exact sum.ensures.lowest
+    l.invariant term.term sum.sum (sym term.ensures.steps) term.ensures.exact
+    (sym sum.ensures.steps) sum.ensures.exact sum.ensures.lowest
 
 pub returns-clause-exact : goal.returns-clause-exact
 returns-clause-exact c =
@@ -59,4 +59,4 @@ returns-clause-exact c =
     let value = other_value c.args.points.now in
     let l = c.loop-t in
     (all_summed make value c.args.start c.args.others.now l.t-index l.sum c.loop-t-test.false
-        l.invariant).exact
+    l.invariant).exact

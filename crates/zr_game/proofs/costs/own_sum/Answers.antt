@@ -15,7 +15,7 @@ loop-v-init c =
     let value = own_at (value_of c.args.point.now) in
     let start = whole (pos 0) in
     subst (λ (s : Fraction). Summed make value start [] s) (sym c.from-sum.ensures.0)
-        (none_summed make value start zero_lowest)
+    (none_summed make value start zero_lowest)
 
 pub returns-in_err-term-clause-steps : goal.returns-in_err-term-clause-steps
 returns-in_err-term-clause-steps c =
@@ -26,8 +26,8 @@ returns-in_err-term-clause-steps c =
     let n : FitsSigned w64 (get_or c.args.cost.now l.v-index (0, pos 0)).1 = search rules in
     let made = sym (simp to_z-of_z at c.in_err-term.ensures.steps) in
     rw (p.1, p.2)
-        (sym (wide_term make value (whole (pos 0)) c.args.cost.now l.v-index (0, pos 0)
-        c.loop-v-test.true l.sum l.invariant _ made))
+    (sym (wide_term make value (whole (pos 0)) c.args.cost.now l.v-index (0, pos 0)
+    c.loop-v-test.true l.sum l.invariant _ made))
 
 pub returns-in_err-sum-clause-steps : goal.returns-in_err-sum-clause-steps
 returns-in_err-sum-clause-steps c =
@@ -35,13 +35,13 @@ returns-in_err-sum-clause-steps c =
     let value = own_at (value_of c.args.point.now) in
     let l = c.loop-v in
     let p = err_from_is_err_and c.from_residual-in_err-sum.result
-        c.from_residual-in_err-sum.ensures.1 in
+    c.from_residual-in_err-sum.ensures.1 in
     let n : FitsSigned w64 (get_or c.args.cost.now l.v-index (0, pos 0)).1 = search rules in
     let made = sym (simp to_z-of_z at c.in_ok-term.ensures.steps) in
     let adds = sym c.in_err-sum.ensures.steps in
     rw (p.1, p.2)
-        (sym (wide_sum make value (whole (pos 0)) c.args.cost.now l.v-index (0, pos 0)
-        c.loop-v-test.true l.sum l.invariant c.in_ok-term.term _ made adds))
+    (sym (wide_sum make value (whole (pos 0)) c.args.cost.now l.v-index (0, pos 0)
+    c.loop-v-test.true l.sum l.invariant c.in_ok-term.term _ made adds))
 
 pub loop-v-preserved : goal.loop-v-preserved
 loop-v-preserved c =
@@ -54,8 +54,8 @@ loop-v-preserved c =
     let made = sym (simp to_z-of_z at term.ensures.steps) in
     let same = simp to_z-of_z at term.ensures.exact in
     more_summed make value (whole (pos 0)) c.args.cost.now l.v-index (0, pos 0) c.loop-v-test.true
-        l.sum l.invariant term.term sum.sum made same (sym sum.ensures.steps) sum.ensures.exact
-        sum.ensures.lowest
+    l.sum l.invariant term.term sum.sum made same (sym sum.ensures.steps) sum.ensures.exact
+    sum.ensures.lowest
 
 pub returns-clause-steps : goal.returns-clause-steps
 returns-clause-steps c =
@@ -63,7 +63,7 @@ returns-clause-steps c =
     let value = own_at (value_of c.args.point.now) in
     let l = c.loop-v in
     sym (all_summed make value (whole (pos 0)) c.args.cost.now l.v-index l.sum c.loop-v-test.false
-        l.invariant).steps
+    l.invariant).steps
 
 pub returns-clause-exact : goal.returns-clause-exact
 returns-clause-exact c =
@@ -71,5 +71,5 @@ returns-clause-exact c =
     let value = own_at (value_of c.args.point.now) in
     let l = c.loop-v in
     let all = all_summed make value (whole (pos 0)) c.args.cost.now l.v-index l.sum
-        c.loop-v-test.false l.invariant in
+    c.loop-v-test.false l.invariant in
     subst (λ (s : Fraction). IsSame l.sum s) (none_plus (sum_over c.args.cost.now value)) all.exact

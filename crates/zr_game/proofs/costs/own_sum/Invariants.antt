@@ -9,4 +9,4 @@ use Rattle.zr_game.proofs.costs.own_sum.Given as goal
 abbrev pub invariant-loop-v : goal.invariant-loop-v
 invariant-loop-v l =
     Summed (own_term l.point) (own_at (value_of l.point)) (whole (pos 0)) (take l.v-index l.cost)
-        l.sum
+    l.sum

@@ -33,15 +33,19 @@ own_sum-requires c =
     let x = sym (point_is points i c.index-points-i.result c.requires.here c.index-points-i.is) in
     let cost = c.args.player.now.cost.items in
     rw c.as_slice.ensures (subst (λ (p : PointOf). All (λ t. t.0 < length p.num) cost) x
-        c.requires.own)
+    c.requires.own)
 
 pub cross_sum-requires : goal.cross_sum-requires
-cross_sum-requires c = record { terms = rw c.deref.ensures.value c.requires.cross;
-    lowest = c.in_ok-own.ensures.lowest }
+cross_sum-requires c = record {
+  terms = rw c.deref.ensures.value c.requires.cross;
+  lowest = c.in_ok-own.ensures.lowest;
+}
 
 pub other_sum-requires : goal.other_sum-requires
-other_sum-requires c = record { terms = rw c.deref-2.ensures.value c.requires.others;
-    lowest = c.in_ok-crossed.ensures.lowest }
+other_sum-requires c = record {
+  terms = rw c.deref-2.ensures.value c.requires.others;
+  lowest = c.in_ok-crossed.ensures.lowest;
+}
 
 pub returns-in_err-own : goal.returns-in_err-own
 returns-in_err-own c =
@@ -50,7 +54,7 @@ returns-in_err-own c =
     let cost = c.args.player.now.cost.items in
     let w = c.in_err-own.field-0.0 in
     let e = subst (λ (p : PointOf). Err w ≡ sum_made (own_term p) (whole (pos 0)) cost) x
-        (rw c.as_slice.ensures at c.in_err-own.ensures.steps) in
+    (rw c.as_slice.ensures at c.in_err-own.ensures.steps) in
     record {
       steps = rw (p.1, p.2) (own_wide (player_of c.args.player.now) c.args.i c.args.points.now w
           (sym e));
@@ -82,7 +86,7 @@ returns c =
     let x = read ((goal.at.returns c).After-own_sum) in
     let terms = rw c.as_slice.ensures at c.in_ok-own.ensures.exact in
     let same = subst (λ (p : PointOf). IsSame own (sum_over player.cost (own_at (value_of p)))) x
-        terms in
+    terms in
     let second = sym (rw c.deref.ensures.value at c.in_ok-crossed.ensures.steps) in
     let both = rw c.deref.ensures.value at c.in_ok-crossed.ensures.exact in
     let made = rw c.deref-2.ensures.value at c.other_sum.ensures.steps in

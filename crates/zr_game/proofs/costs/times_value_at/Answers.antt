@@ -9,4 +9,4 @@ returns-clause-exact c =
     let b = c.value.result in
     let x = value_of c.args.point.now c.args.v in
     if_made c.mul.result (times a b) (times a x) (λ f e. times_last f a b x e c.value.ensures.same)
-        c.mul.ensures.exact
+    c.mul.ensures.exact

@@ -19,28 +19,28 @@ returns-in_err-shared-clause-steps c =
     let p = err_from_is_err_and c.from_residual.result c.from_residual.ensures.1 in
     let m = to_z w128 c.loop-f.shared-bits in
     let e = sym (c.in_err-shared.ensures.steps ∙
-        ap (λ (f : Fraction). multiple_steps m (f ∷ [])) c.f-item.is) in
+    ap (λ (f : Fraction). multiple_steps m (f ∷ [])) c.f-item.is) in
     rw (p.1, p.2)
-        (sym (wide_carried c.args.slope.now c.loop-f.f-index c.f-item.result c.loop-f-test.true m
-        c.loop-f.invariant _ e))
+    (sym (wide_carried c.args.slope.now c.loop-f.f-index c.f-item.result c.loop-f-test.true m
+    c.loop-f.invariant _ e))
 
 pub loop-f-preserved : goal.loop-f-preserved
 loop-f-preserved c =
     let r : FitsSigned w128 c.in_ok-shared.shared = search rules in
     let m = to_z w128 c.loop-f.shared-bits in
     let e = sym (c.in_ok-shared.ensures.steps ∙
-        ap (λ (f : Fraction). multiple_steps m (f ∷ [])) c.f-item.is) in
+    ap (λ (f : Fraction). multiple_steps m (f ∷ [])) c.f-item.is) in
     let lcm = subst (λ (f : Fraction). IsLcm m f.den c.in_ok-shared.shared) c.f-item.is
-        c.in_ok-shared.ensures.exact in
+    c.in_ok-shared.ensures.exact in
     simp to_z-of_z (more_carried c.args.slope.now c.loop-f.f-index c.f-item.result
-        c.loop-f-test.true m c.loop-f.invariant c.in_ok-shared.shared e lcm)
+    c.loop-f-test.true m c.loop-f.invariant c.in_ok-shared.shared e lcm)
 
 pub returns-clause-steps : goal.returns-clause-steps
 returns-clause-steps c =
     sym (all_carried c.args.slope.now c.loop-f.f-index (to_z w128 c.loop-f.shared-bits)
-        c.loop-f-test.false c.loop-f.invariant).0
+    c.loop-f-test.false c.loop-f.invariant).0
 
 pub returns-clause-exact : goal.returns-clause-exact
 returns-clause-exact c =
     (all_carried c.args.slope.now c.loop-f.f-index (to_z w128 c.loop-f.shared-bits)
-        c.loop-f-test.false c.loop-f.invariant).1
+    c.loop-f-test.false c.loop-f.invariant).1

@@ -35,7 +35,7 @@ pub returns-clause-steps : goal.returns-clause-steps
 returns-clause-steps c =
     let at = goal.at.returns-clause-steps c in
     stepped at.After-cross ∙ ap (λ (b : ℤ). cross_of (c.args.m, b) (pos 0, pos 0))
-        (by_is at.After-cross) ∙ step_only c.args.m c.args.f
+    (by_is at.After-cross) ∙ step_only c.args.m c.args.f
 
 pub returns-clause-exact : goal.returns-clause-exact
 returns-clause-exact c =
@@ -47,4 +47,4 @@ returns-clause-exact c =
     let gcd = rw c.den-den.ensures.value at (simp to_z-of_z at c.common-shared.ensures.gcd) in
     let below = rw c.den-den.ensures.value at c.den-den.ensures.positive in
     step_lcm c.args.m c.args.f c.divided.result c.common-shared.result c.requires below
-        c.common-shared.ensures.positive left gcd c.cross.result (stepped at.After-cross)
+    c.common-shared.ensures.positive left gcd c.cross.result (stepped at.After-cross)

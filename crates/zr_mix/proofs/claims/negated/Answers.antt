@@ -12,7 +12,7 @@ divided-requires-clause-divides c =
     let m : FitsSigned w128 c.args.m = search rules in
     let d : FitsSigned w128 c.den.result = search rules in
     simp to_z-of_z
-        (rw c.den.ensures.value (divides_multiple c.args.m c.args.f.den c.requires.multiple))
+    (rw c.den.ensures.value (divides_multiple c.args.m c.args.f.den c.requires.multiple))
 
 stepped : (c : After-cross) → c.cross.result ≡ negated_over c.args.m c.args.f
 stepped c =
@@ -34,4 +34,4 @@ pub returns-clause-exact : goal.returns-clause-exact
 returns-clause-exact c =
     let positive = rw c.den.ensures.value at c.den.ensures.positive in
     negated_exact c.args.m c.args.f positive c.requires.multiple c.cross.result
-        (stepped ((goal.at.returns-clause-exact c).After-cross))
+    (stepped ((goal.at.returns-clause-exact c).After-cross))

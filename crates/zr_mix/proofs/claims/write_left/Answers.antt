@@ -17,7 +17,7 @@ pub negated-requires-clause-multiple : goal.negated-requires-clause-multiple
 negated-requires-clause-multiple c =
     let m : FitsSigned w128 c.args.m = search rules in
     simp to_z-of_z (subst (IsMultipleOf c.args.m) (sym c.index-slope-v.is)
-        (c.requires.multiples c.loop-v.v c.index-slope-v.result c.loop-v-test.true))
+    (c.requires.multiples c.loop-v.v c.index-slope-v.result c.loop-v-test.true))
 
 at_item : (slope : List Fraction) (v : ℕ) (x : Fraction) → v < length slope → x ≡ get_or slope v x
     → x ≡ item_of slope v
@@ -36,9 +36,9 @@ returns-in_err-out-clause-steps c =
     let x = at_item slope c.loop-v.v c.index-slope-v.result c.loop-v-test.true c.index-slope-v.is in
     let e = sym (simp to_z-of_z at c.in_err-out.ensures.steps ∙ ap (negated_over c.args.m) x) in
     rw (p.1, p.2) (writes_err _ _ c.loop-v.out (listed c.args.m slope ∙
-        wide_made (pos 0) (λ v. negated_over c.args.m (item_of slope v))
-        (λ v z. IsNegatedOver c.args.m (item_of slope v) z) c.loop-v.out c.loop-v.v (length slope) _
-        c.loop-v-test.true (simp to_z-of_z at c.loop-v.invariant) e))
+    wide_made (pos 0) (λ v. negated_over c.args.m (item_of slope v))
+    (λ v z. IsNegatedOver c.args.m (item_of slope v) z) c.loop-v.out c.loop-v.v (length slope) _
+    c.loop-v-test.true (simp to_z-of_z at c.loop-v.invariant) e))
 
 pub loop-v-preserved : goal.loop-v-preserved
 loop-v-preserved c =
@@ -48,11 +48,11 @@ loop-v-preserved c =
     let x = at_item slope c.loop-v.v c.index-slope-v.result c.loop-v-test.true c.index-slope-v.is in
     let e = sym (simp to_z-of_z at c.in_ok-out.ensures.steps ∙ ap (negated_over c.args.m) x) in
     let exact = subst (λ (f : Fraction). IsNegatedOver c.args.m f c.in_ok-out.field-0) x
-        (simp to_z-of_z at c.in_ok-out.ensures.exact) in
+    (simp to_z-of_z at c.in_ok-out.ensures.exact) in
     simp to_z-of_z (more_made (pos 0) (λ v. negated_over c.args.m (item_of slope v))
-        (λ v z. IsNegatedOver c.args.m (item_of slope v) z) c.loop-v.out c.loop-v.v
-        c.in_ok-out.field-0 (omega (arith, c.loop-v.auto.out, c.loop-v-test.true, c.requires.len))
-        (simp to_z-of_z at c.loop-v.invariant) e exact)
+    (λ v z. IsNegatedOver c.args.m (item_of slope v) z) c.loop-v.out c.loop-v.v
+    c.in_ok-out.field-0 (omega (arith, c.loop-v.auto.out, c.loop-v-test.true, c.requires.len))
+    (simp to_z-of_z at c.loop-v.invariant) e exact)
 
 pub returns-clause-steps : goal.returns-clause-steps
 returns-clause-steps c =
@@ -61,11 +61,11 @@ returns-clause-steps c =
     let before = simp to_z-of_z at c.loop-v.invariant in
     let v : c.loop-v.v ≡ length slope = omega (arith, c.loop-v-test.false, c.loop-v.auto.v-end) in
     writes_ok _ c.loop-v.out (listed c.args.m slope ∙
-        all_made (pos 0) (λ v. negated_over c.args.m (item_of slope v))
-        (λ v z. IsNegatedOver c.args.m (item_of slope v) z) c.loop-v.out (length slope)
-        (omega (arith, c.loop-v.auto.out, c.requires.len))
-        (subst (λ n. Made (pos 0) (λ v. negated_over c.args.m (item_of slope v))
-        (λ v z. IsNegatedOver c.args.m (item_of slope v) z) n c.loop-v.out) v before))
+    all_made (pos 0) (λ v. negated_over c.args.m (item_of slope v))
+    (λ v z. IsNegatedOver c.args.m (item_of slope v) z) c.loop-v.out (length slope)
+    (omega (arith, c.loop-v.auto.out, c.requires.len))
+    (subst (λ n. Made (pos 0) (λ v. negated_over c.args.m (item_of slope v))
+    (λ v z. IsNegatedOver c.args.m (item_of slope v) z) n c.loop-v.out) v before))
 
 pub returns-clause-exact : goal.returns-clause-exact
 returns-clause-exact c =

@@ -20,7 +20,7 @@ loop-part-init c =
     let positive : (pos 0) <ℤ c.args.total = omega (arith, ints, c.requires.total) in
     let none = none_of c.args.total positive c.args.v in
     simp to_z-of_z (subst (λ (s : Fraction). MeanOf c.args.total c.args.v [] s)
-        (sym c.from-sum.ensures.0) none)
+    (sym c.from-sum.ensures.0) none)
 
 pub share_of-requires : goal.share_of-requires
 share_of-requires c =
@@ -38,38 +38,38 @@ returns-in_err-term-clause-steps c =
     let t : FitsSigned w128 c.args.total = search rules in
     let p = err_from_is_err_and c.from_residual.result c.from_residual.ensures.1 in
     rw (p.1, p.2) (term_wide c.args.total (omega (arith, ints, c.requires.total)) c.args.v
-        c.args.parts.now c.loop-part.part-index c.part-item.result c.loop-part-test.true
-        c.part-item.is c.loop-part.sum (simp to_z-of_z at c.loop-part.invariant) _
-        (simp to_z-of_z at c.in_err-term.ensures.steps))
+    c.args.parts.now c.loop-part.part-index c.part-item.result c.loop-part-test.true
+    c.part-item.is c.loop-part.sum (simp to_z-of_z at c.loop-part.invariant) _
+    (simp to_z-of_z at c.in_err-term.ensures.steps))
 
 pub returns-in_err-sum-clause-steps : goal.returns-in_err-sum-clause-steps
 returns-in_err-sum-clause-steps c =
     let t : FitsSigned w128 c.args.total = search rules in
     let p = err_from_is_err_and c.from_residual-in_err-sum.result
-        c.from_residual-in_err-sum.ensures.1 in
+    c.from_residual-in_err-sum.ensures.1 in
     rw (p.1, p.2) (sum_wide c.args.total (omega (arith, ints, c.requires.total)) c.args.v
-        c.args.parts.now c.loop-part.part-index c.part-item.result c.loop-part-test.true
-        c.part-item.is c.loop-part.sum (simp to_z-of_z at c.loop-part.invariant) c.in_ok-term.term _
-        (simp to_z-of_z at c.in_ok-term.ensures.steps) c.in_err-sum.ensures.steps)
+    c.args.parts.now c.loop-part.part-index c.part-item.result c.loop-part-test.true
+    c.part-item.is c.loop-part.sum (simp to_z-of_z at c.loop-part.invariant) c.in_ok-term.term _
+    (simp to_z-of_z at c.in_ok-term.ensures.steps) c.in_err-sum.ensures.steps)
 
 pub loop-part-preserved : goal.loop-part-preserved
 loop-part-preserved c =
     let t : FitsSigned w128 c.args.total = search rules in
     simp to_z-of_z (more_of c.args.total (omega (arith, ints, c.requires.total)) c.args.v
-        c.args.parts.now c.loop-part.part-index c.part-item.result c.loop-part-test.true
-        c.part-item.is c.loop-part.sum (simp to_z-of_z at c.loop-part.invariant) c.in_ok-term.term
-        c.in_ok-sum.sum (simp to_z-of_z at c.in_ok-term.ensures.steps)
-        (simp to_z-of_z at c.in_ok-term.ensures.exact) c.in_ok-sum.ensures.steps
-        c.in_ok-sum.ensures.exact c.in_ok-sum.ensures.lowest)
+    c.args.parts.now c.loop-part.part-index c.part-item.result c.loop-part-test.true
+    c.part-item.is c.loop-part.sum (simp to_z-of_z at c.loop-part.invariant) c.in_ok-term.term
+    c.in_ok-sum.sum (simp to_z-of_z at c.in_ok-term.ensures.steps)
+    (simp to_z-of_z at c.in_ok-term.ensures.exact) c.in_ok-sum.ensures.steps
+    c.in_ok-sum.ensures.exact c.in_ok-sum.ensures.lowest)
 
 pub returns-clause-steps : goal.returns-clause-steps
 returns-clause-steps c =
     let at = goal.at.returns-clause-steps c in
     made_of c.args.total (omega (arith, ints, c.requires.total)) c.args.v c.args.parts.now
-        c.loop-part.part-index c.loop-part.sum c.loop-part-test.false (so_far at.After-loop-part)
+    c.loop-part.part-index c.loop-part.sum c.loop-part-test.false (so_far at.After-loop-part)
 
 pub returns-clause-exact : goal.returns-clause-exact
 returns-clause-exact c =
     let at = goal.at.returns-clause-exact c in
     exact_of c.args.total (omega (arith, ints, c.requires.total)) c.args.v c.args.parts.now
-        c.loop-part.part-index c.loop-part.sum c.loop-part-test.false (so_far at.After-loop-part)
+    c.loop-part.part-index c.loop-part.sum c.loop-part-test.false (so_far at.After-loop-part)

@@ -17,14 +17,14 @@ use Rattle.zr_mix.proofs.mean.means.Goals as goal
 pub mean_at-requires-clause-weights : goal.mean_at-requires-clause-weights
 mean_at-requires-clause-weights c =
     rw c.deref.ensures.value (All-of_map part_of (λ (part : PartOf). (pos 1) ≤ℤ part.weight)
-        c.args.strategy.now.parts.items c.requires.weights)
+    c.args.strategy.now.parts.items c.requires.weights)
 
 pub mean_at-requires-clause-places : goal.mean_at-requires-clause-places
 mean_at-requires-clause-places c =
     let lengths = All-of_map part_of (λ (part : PartOf). length part.point.num ≡ length
-        c.args.out.now) c.args.strategy.now.parts.items c.requires.lengths in
+    c.args.out.now) c.args.strategy.now.parts.items c.requires.lengths in
     rw c.deref.ensures.value (λ k d h. let e = lengths k d h in
-        subst (λ n. c.loop-v.v < n) (sym e) c.loop-v-test.true)
+    subst (λ n. c.loop-v.v < n) (sym e) c.loop-v-test.true)
 
 pub returns-in_err-out-clause-steps : goal.returns-in_err-out-clause-steps
 returns-in_err-out-clause-steps c =
@@ -33,16 +33,18 @@ returns-in_err-out-clause-steps c =
     let e = simp to_z-of_z at (rw c.deref.ensures.value at c.in_err-out.ensures.steps) in
     let strategy = c.args.strategy.now in
     rw (p.1, p.2) (writes_err _ _ c.loop-v.out
-        (wide_made (whole (pos 0)) (mean_steps strategy.total (parts_of strategy))
-        (λ v f. strategy.total ≡ total (parts_of strategy)
-        → IsReduced f (mean (parts_of strategy) v)) c.loop-v.out c.loop-v.v (length c.args.out.now)
-        _ c.loop-v-test.true c.loop-v.invariant (sym e)))
+    (wide_made (whole (pos 0)) (mean_steps strategy.total (parts_of strategy))
+    (λ v f. strategy.total ≡ total (parts_of strategy)
+    → IsReduced f (mean (parts_of strategy) v)) c.loop-v.out c.loop-v.v (length c.args.out.now)
+    _ c.loop-v-test.true c.loop-v.invariant (sym e)))
 
 kept : (parts : List PartOf) (t : ℤ) (v : ℕ) (f : Fraction) → IsLowest f
     → IsSame f (over (weighted parts (λ x. value_of x v)) t) → t ≡ total parts
     → IsReduced f (mean parts v)
-kept parts t v f lowest same e = record { lowest = lowest;
-    same = subst (λ n. IsSame f (over (weighted parts (λ x. value_of x v)) n)) e same }
+kept parts t v f lowest same e = record {
+  lowest = lowest;
+  same = subst (λ n. IsSame f (over (weighted parts (λ x. value_of x v)) n)) e same;
+}
 
 pub loop-v-preserved : goal.loop-v-preserved
 loop-v-preserved c =
@@ -51,8 +53,8 @@ loop-v-preserved c =
     let e = simp to_z-of_z at (rw c.deref.ensures.value at c.in_ok-out.ensures.steps) in
     let same = simp to_z-of_z at (rw c.deref.ensures.value at c.in_ok-out.ensures.exact) in
     more_made (whole (pos 0)) (mean_steps strategy.total (parts_of strategy))
-        (λ v f. strategy.total ≡ total (parts_of strategy)
-        → IsReduced f (mean (parts_of strategy) v)) c.loop-v.out c.loop-v.v c.in_ok-out.field-0
-        (omega (arith, c.loop-v.auto.out, c.loop-v-test.true)) c.loop-v.invariant (sym e)
-        (kept (parts_of strategy) strategy.total c.loop-v.v c.in_ok-out.field-0
-        c.in_ok-out.ensures.lowest same)
+    (λ v f. strategy.total ≡ total (parts_of strategy)
+    → IsReduced f (mean (parts_of strategy) v)) c.loop-v.out c.loop-v.v c.in_ok-out.field-0
+    (omega (arith, c.loop-v.auto.out, c.loop-v-test.true)) c.loop-v.invariant (sym e)
+    (kept (parts_of strategy) strategy.total c.loop-v.v c.in_ok-out.field-0
+    c.in_ok-out.ensures.lowest same)

@@ -11,5 +11,5 @@ use Rattle.zr_mix.proofs.mean.means.Given as goal
 abbrev pub invariant-loop-v : goal.invariant-loop-v
 invariant-loop-v l =
     Made (whole (pos 0)) (mean_steps l.strategy.total (parts_of l.strategy))
-        (λ v f. l.strategy.total ≡ total (parts_of l.strategy)
-        → IsReduced f (mean (parts_of l.strategy) v)) l.v l.out
+    (λ v f. l.strategy.total ≡ total (parts_of l.strategy)
+    → IsReduced f (mean (parts_of l.strategy) v)) l.v l.out

@@ -16,4 +16,4 @@ returns-clause-exact c =
     let x = value_of c.args.part.now.point c.args.v in
     let same = simp to_z-of_z at c.probability.ensures.same in
     if_is_same c.mul.result (times p q) (times w x) (times_same p q w x same c.value.ensures.same)
-        c.mul.ensures.exact
+    c.mul.ensures.exact

@@ -15,7 +15,7 @@ is_player : (c : After-index)
 is_player c =
     let players = c.args.game.now.players.items in
     found player_of players c.args.i c.index.result.now
-        (read_below player_of players c.args.i c.requires.number) c.index.ensures
+    (read_below player_of players c.args.i c.requires.number) c.index.ensures
 
 pub rest_sum-requires : goal.rest_sum-requires
 rest_sum-requires c =
@@ -23,7 +23,7 @@ rest_sum-requires c =
     let player = player_of c.index.result.now in
     let is = is_player ((goal.at.rest_sum-requires c).After-index) in
     rw c.deref.ensures.value (means_there game c.args.game.now.sound c.args.i player is
-        c.args.means.now c.requires.means)
+    c.args.means.now c.requires.means)
 
 pub returns-clause-steps : goal.returns-clause-steps
 returns-clause-steps c player is =
@@ -31,9 +31,9 @@ returns-clause-steps c player is =
     let means = c.args.means.now in
     let r = c.rest_sum.result in
     let s = one game c.args.i (player_of c.index.result.now) player
-        (is_player ((goal.at.returns-clause-steps c).After-index)) is in
+    (is_player ((goal.at.returns-clause-steps c).After-index)) is in
     subst (λ (p : PlayerOf). r ≡ rest_steps game p means) s
-        (rw c.deref.ensures.value at c.rest_sum.ensures.steps)
+    (rw c.deref.ensures.value at c.rest_sum.ensures.steps)
 
 pub returns-clause-at : goal.returns-clause-at
 returns-clause-at c player is =
@@ -42,7 +42,7 @@ returns-clause-at c player is =
     let value = mean_in game c.args.means.now in
     let r = c.rest_sum.result in
     let s = one game c.args.i own player (is_player ((goal.at.returns-clause-at c).After-index)) is
-        in
+    in
     let exact = rw c.deref.ensures.value at c.rest_sum.ensures.exact in
     let at = reduced_if r (rest_at own value) exact c.rest_sum.ensures.lowest in
     subst (λ (p : PlayerOf). IfOk r (λ f. IsReduced f (rest_at p value))) s at
@@ -55,7 +55,7 @@ returns-clause-exact c player is profile are =
     let value = mean_in game means in
     let r = c.rest_sum.result in
     let s = one game c.args.i own player (is_player ((goal.at.returns-clause-exact c).After-index))
-        is in
+    is in
     let exact = rw c.deref.ensures.value at c.rest_sum.ensures.exact in
     let at = reduced_if r (rest_at own value) exact c.rest_sum.ensures.lowest in
     let here = subst (λ (p : PlayerOf). IfOk r (λ f. IsReduced f (rest_at p value))) s at in

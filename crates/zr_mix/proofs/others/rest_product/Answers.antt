@@ -18,7 +18,7 @@ returns-in_err-first-clause-steps c =
     let p = err_from_is_err_and c.from_residual.result c.from_residual.ensures.1 in
     let wide = sym (c.in_err-first.ensures.steps ∙ ap₂ mul_of number c.mean_of.ensures) in
     rw (p.1, p.2) (first_wide (game_of c.args.game.now) c.args.means.now t c.in_err-first.field-0.0
-        wide)
+    wide)
 
 pub returns-in-Some-clause-steps : goal.returns-in-Some-clause-steps
 returns-in-Some-clause-steps c =
@@ -29,7 +29,7 @@ returns-in-Some-clause-steps c =
     let one = sym (c.in_ok-first.ensures.steps ∙ ap₂ mul_of number c.mean_of.ensures) in
     let two = c.mul-in-Some.ensures.steps ∙ ap (mul_of first) c.mean_of-in-Some.ensures in
     two ∙ second_made (game_of c.args.game.now) c.args.means.now t c.in-Some.at c.in-Some.is first
-        one
+    one
 
 pub returns-in-Some-clause-exact : goal.returns-in-Some-clause-exact
 returns-in-Some-clause-exact c =
@@ -39,8 +39,8 @@ returns-in-Some-clause-exact c =
     let value = mean_in (game_of c.args.game.now) c.args.means.now in
     let number : c.from.result ≡ whole t.coef = simp to_z-of_z at c.from.ensures.0 in
     let one = subst (λ (x : Fraction). IsSame first x) (ap₂ times number c.mean_of.ensures)
-        c.in_ok-first.ensures.exact in
+    c.in_ok-first.ensures.exact in
     let r = c.mul-in-Some.result in
     let two = subst (λ (x : Fraction). IfOk r (λ f. IsSame f (times first x)))
-        c.mean_of-in-Some.ensures c.mul-in-Some.ensures.exact in
+    c.mean_of-in-Some.ensures c.mul-in-Some.ensures.exact in
     other_exact t c.in-Some.at first c.in-Some.is value r one two

@@ -20,7 +20,7 @@ loop-t-init c =
     let value = other_at (mean_in (game_of c.args.game.now) c.args.means.now) in
     let start = whole (pos 0) in
     subst (λ (s : Fraction). Summed make value start [] s) (sym c.from-sum.ensures.0)
-        (none_summed make value start zero_lowest)
+    (none_summed make value start zero_lowest)
 
 pub returns-in_err-term-clause-steps : goal.returns-in_err-term-clause-steps
 returns-in_err-term-clause-steps c =
@@ -30,8 +30,8 @@ returns-in_err-term-clause-steps c =
     let p = err_from_is_err_and c.from_residual.result c.from_residual.ensures.1 in
     let made = sym c.in_err-term.ensures.steps in
     rw (p.1, p.2)
-        (sym (wide_term make value (whole (pos 0)) c.args.others.now l.t-index none
-        c.loop-t-test.true l.sum l.invariant _ made))
+    (sym (wide_term make value (whole (pos 0)) c.args.others.now l.t-index none
+    c.loop-t-test.true l.sum l.invariant _ made))
 
 pub returns-in_err-sum-clause-steps : goal.returns-in_err-sum-clause-steps
 returns-in_err-sum-clause-steps c =
@@ -39,12 +39,12 @@ returns-in_err-sum-clause-steps c =
     let value = other_at (mean_in (game_of c.args.game.now) c.args.means.now) in
     let l = c.loop-t in
     let p = err_from_is_err_and c.from_residual-in_err-sum.result
-        c.from_residual-in_err-sum.ensures.1 in
+    c.from_residual-in_err-sum.ensures.1 in
     let made = sym c.in_ok-term.ensures.steps in
     let adds = sym c.in_err-sum.ensures.steps in
     rw (p.1, p.2)
-        (sym (wide_sum make value (whole (pos 0)) c.args.others.now l.t-index none
-        c.loop-t-test.true l.sum l.invariant c.in_ok-term.term _ made adds))
+    (sym (wide_sum make value (whole (pos 0)) c.args.others.now l.t-index none
+    c.loop-t-test.true l.sum l.invariant c.in_ok-term.term _ made adds))
 
 pub loop-t-preserved : goal.loop-t-preserved
 loop-t-preserved c =
@@ -54,8 +54,8 @@ loop-t-preserved c =
     let term = c.in_ok-term in
     let sum = c.in_ok-sum in
     more_summed make value (whole (pos 0)) c.args.others.now l.t-index none c.loop-t-test.true l.sum
-        l.invariant term.term sum.sum (sym term.ensures.steps) term.ensures.exact
-        (sym sum.ensures.steps) sum.ensures.exact sum.ensures.lowest
+    l.invariant term.term sum.sum (sym term.ensures.steps) term.ensures.exact
+    (sym sum.ensures.steps) sum.ensures.exact sum.ensures.lowest
 
 pub returns-clause-steps : goal.returns-clause-steps
 returns-clause-steps c =
@@ -63,7 +63,7 @@ returns-clause-steps c =
     let value = other_at (mean_in (game_of c.args.game.now) c.args.means.now) in
     let l = c.loop-t in
     sym (all_summed make value (whole (pos 0)) c.args.others.now l.t-index l.sum c.loop-t-test.false
-        l.invariant).steps
+    l.invariant).steps
 
 pub returns-clause-exact : goal.returns-clause-exact
 returns-clause-exact c =
@@ -71,6 +71,6 @@ returns-clause-exact c =
     let value = other_at (mean_in (game_of c.args.game.now) c.args.means.now) in
     let l = c.loop-t in
     let all = all_summed make value (whole (pos 0)) c.args.others.now l.t-index l.sum
-        c.loop-t-test.false l.invariant in
+    c.loop-t-test.false l.invariant in
     subst (λ (s : Fraction). IsSame l.sum s) (none_plus (sum_over c.args.others.now value))
-        all.exact
+    all.exact

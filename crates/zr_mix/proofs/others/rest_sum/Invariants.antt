@@ -10,4 +10,4 @@ abbrev pub invariant-loop-t : goal.invariant-loop-t
 invariant-loop-t l =
     let game = game_of l.game in
     Summed (rest_term game l.means) (other_at (mean_in game l.means)) (whole (pos 0))
-        (take l.t-index l.others) l.sum
+    (take l.t-index l.others) l.sum

@@ -6,4 +6,4 @@ use Rattle.zr_mix.proofs.place.place.Given as goal
 abbrev pub invariant-loop-player : goal.invariant-loop-player
 invariant-loop-player l =
     l.before + var_total (map player_of (drop l.player-index (take l.k l.game.players.items))) ≡
-        var_total (map player_of (take l.k l.game.players.items))
+    var_total (map player_of (take l.k l.game.players.items))

@@ -18,32 +18,32 @@ is_player c = found player_of c.args.game.now.players.items c.args.i c.index.res
 pub write_slope-requires : goal.write_slope-requires
 write_slope-requires c =
     mean_there (game_of c.args.game.now) c.args.game.now.sound c.args.i
-        (player_of c.index.result.now) (is_player ((goal.at.write_slope-requires c).After-index))
-        c.args.means.now c.requires.means
+    (player_of c.index.result.now) (is_player ((goal.at.write_slope-requires c).After-index))
+    c.args.means.now c.requires.means
 
 pub returns-clause-steps : goal.returns-clause-steps
 returns-clause-steps c player is =
     let s = one (game_of c.args.game.now) c.args.i (player_of c.index.result.now) player
-        (is_player ((goal.at.returns-clause-steps c).After-index)) is in
+    (is_player ((goal.at.returns-clause-steps c).After-index)) is in
     subst (λ (p : PlayerOf). Writes
-        (made_from (slope_steps (game_of c.args.game.now) p c.args.means.now) 0
-        (length c.args.out.now)) c.write_slope.result c.write_slope.new.out) s
-        c.write_slope.ensures.steps
+    (made_from (slope_steps (game_of c.args.game.now) p c.args.means.now) 0
+    (length c.args.out.now)) c.write_slope.result c.write_slope.new.out) s
+    c.write_slope.ensures.steps
 
 pub returns-clause-at : goal.returns-clause-at
 returns-clause-at c player is =
     let s = one (game_of c.args.game.now) c.args.i (player_of c.index.result.now) player
-        (is_player ((goal.at.returns-clause-at c).After-index)) is in
+    (is_player ((goal.at.returns-clause-at c).After-index)) is in
     subst (λ (p : PlayerOf). OnOk c.write_slope.result
-        (AreReduced c.write_slope.new.out (length c.args.out.now)
-        (slope_at (game_of c.args.game.now) p c.args.means.now))) s c.write_slope.ensures.at
+    (AreReduced c.write_slope.new.out (length c.args.out.now)
+    (slope_at (game_of c.args.game.now) p c.args.means.now))) s c.write_slope.ensures.at
 
 pub returns-clause-exact : goal.returns-clause-exact
 returns-clause-exact c player is profile are =
     let s = one (game_of c.args.game.now) c.args.i (player_of c.index.result.now) player
-        (is_player ((goal.at.returns-clause-exact c).After-index)) is in
+    (is_player ((goal.at.returns-clause-exact c).After-index)) is in
     let at = subst (λ (p : PlayerOf). OnOk c.write_slope.result
-        (AreReduced c.write_slope.new.out (length c.args.out.now)
-        (slope_at (game_of c.args.game.now) p c.args.means.now))) s c.write_slope.ensures.at in
+    (AreReduced c.write_slope.new.out (length c.args.out.now)
+    (slope_at (game_of c.args.game.now) p c.args.means.now))) s c.write_slope.ensures.at in
     all_at_means (game_of c.args.game.now) c.args.game.now.sound c.args.i player is profile
-        c.args.means.now are c.write_slope.result c.write_slope.new.out (length c.args.out.now) at
+    c.args.means.now are c.write_slope.result c.write_slope.new.out (length c.args.out.now) at

@@ -11,8 +11,10 @@ use Rattle.zr_mix.proofs.slopes.slope_of_var.Goals as goal
 use Rattle.zr_mix.proofs.slopes.slope_of_var.Goals.{After-with_terms}
 
 pub with_terms-requires : goal.with_terms-requires
-with_terms-requires c = record { means = rw c.deref.ensures.value c.requires;
-    lowest = c.from-own.ensures.1 }
+with_terms-requires c = record {
+  means = rw c.deref.ensures.value c.requires;
+  lowest = c.from-own.ensures.1;
+}
 
 own_is : (c : After-with_terms)
     → c.from-own.result ≡ whole (coef_at c.args.player.now.cost.items c.args.v)
@@ -31,4 +33,4 @@ returns-clause-at c =
     let own = own_is ((goal.at.returns-clause-at c).After-with_terms) in
     let exact = rw (own, c.deref.ensures.value) at c.with_terms.ensures.exact in
     reduced_if c.with_terms.result (slope_at (game_of c.args.game.now) (player_of c.args.player.now)
-        c.args.means.now c.args.v) exact c.with_terms.ensures.lowest
+    c.args.means.now c.args.v) exact c.with_terms.ensures.lowest

@@ -22,12 +22,12 @@ returns-clause-exact c =
     let made = c.in_ok-term.term in
     let number : c.from.result ≡ whole t.coef = simp to_z-of_z at c.from.ensures.0 in
     let same = subst (λ (x : Fraction). IsSame made x) (ap₂ times number c.mean_of.ensures)
-        c.in_ok-term.ensures.exact in
+    c.in_ok-term.ensures.exact in
     let own : (t.own == c.args.v) ≡ true = (let e = c.if-t-v.false in passes t.own c.args.v e) in
     let sum = c.args.sum in
     let all = plus sum (sum_over (cond (t.own == c.args.v) (t ∷ []) []) term) in
     if_made c.add.result (plus sum made) all (λ f e. only_term (t.own == c.args.v) own term t f sum
-        (plus_last f sum made (term t) e same)) c.add.ensures.exact
+    (plus_last f sum made (term t) e same)) c.add.ensures.exact
 
 pub returns-clause-steps : goal.returns-clause-steps
 returns-clause-steps c =

@@ -8,4 +8,4 @@ use Rattle.zr_mix.proofs.slopes.with_terms.Given as goal
 abbrev pub invariant-loop-t : goal.invariant-loop-t
 invariant-loop-t l =
     Onward (slope_term (game_of l.game) l.means) (term_at (game_of l.game) l.means)
-        (λ t. t.own == l.v) l.fn.start l.cross l.t-index l.sum
+    (λ t. t.own == l.v) l.fn.start l.cross l.t-index l.sum

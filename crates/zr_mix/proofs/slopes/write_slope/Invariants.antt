@@ -10,4 +10,4 @@ use Rattle.zr_mix.proofs.slopes.write_slope.Given as goal
 abbrev pub invariant-loop-v : goal.invariant-loop-v
 invariant-loop-v l =
     Made (whole (pos 0)) (slope_steps (game_of l.game) (player_of l.player) l.means)
-        (λ v f. IsReduced f (slope_at (game_of l.game) (player_of l.player) l.means v)) l.v l.out
+    (λ v f. IsReduced f (slope_at (game_of l.game) (player_of l.player) l.means v)) l.v l.out
