@@ -5,3 +5,4 @@ pub mod Linked
 pub mod Families
 pub mod Growth
 pub mod Parts
+pub mod Kinship

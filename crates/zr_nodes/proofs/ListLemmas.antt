@@ -1,7 +1,7 @@
 -- What the words on lists of node numbers keep.
 use Rattle.std.proofs.Common.{◌≡◌, ℕ, zero, suc, ◌+◌, ◌<◌, ◌≤◌, arith, refl, sym, subst, ◌∙◌, List, [], ◌∷◌, ◌++◌, length, length-append, Option, Some, None, ◌⊎◌, ⊎_elim, inl, inr}
 use Rattle.std.proofs.lemmas.Bool.{eq-eqb, ne_eqb, cases_eq}
-use Rattle.zr_nodes.specs.Lists.{numbers, first_or, after, replaced, Has, NoRepeats, last_or}
+use Rattle.zr_nodes.specs.Lists.{numbers, first_or, first, after, replaced, Has, NoRepeats, last_or}
 
 pub first_or-append : (xs ys : List ℕ) (end : Option ℕ) → first_or (xs ++ ys) end ≡ first_or xs (first_or ys end)
 first_or-append [] ys end = refl
@@ -148,3 +148,16 @@ has_or_lacks (x ∷ xs) k =
     (λ (l : Has xs k → ⊥). inr (λ h. ⊎_elim (λ (e : k ≡ x). ne e) (λ (b : Has xs k). l b) h))
     (has_or_lacks xs k))
     (cases_eq k x)
+
+-- what the list begins with or has after a number is in it
+pub first_has : (xs : List ℕ) (y : ℕ) → first xs ≡ Some y → Has xs y
+first_has [] y e = cc
+first_has (x ∷ xs) y e = inl (cc)
+
+pub after_has : (xs : List ℕ) (x y : ℕ) → after x xs ≡ Some y → Has xs y
+after_has [] x y e = cc
+after_has (z ∷ zs) x y e = go (cases_eq x z) (after_has zs x y)
+  where
+    go : (x ≡ z) ⊎ (x ≡ z → ⊥) → (after x zs ≡ Some y → Has zs y) → Has (z ∷ zs) y
+    go (inl same) _ = inr (first_has zs y (rw (eq-eqb x z same) at e))
+    go (inr ne) before = inr (before (sym (after_behind x z zs ne) ∙ e))

@@ -80,6 +80,18 @@ module _ {T : Type 0} where
     pub inside : node < length f.items
     pub childless : children f.parents node ≡ []
 
+  -- a node with this parent, which came before it
+  pub record IsChild (f : Forest T) (child node : ℕ) : Type 0 where
+    pub inside : child < length f.items
+    pub parent : parent_of f.parents child ≡ Some node
+    pub later : node < child
+
+  -- a later node with the same parent
+  pub record IsNextSibling (f : Forest T) (other node : ℕ) : Type 0 where
+    pub inside : other < length f.items
+    pub parent : parent_of f.parents other ≡ parent_of f.parents node
+    pub later : node < other
+
   -- a leaf that was closed: it is not left to do
   pub record IsClosed (f : Forest T) (node : ℕ) : Type 0 where
     pub leaf : IsLeaf f node

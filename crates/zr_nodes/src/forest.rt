@@ -1,6 +1,6 @@
-ghost use Rattle.std.specs.Prelude.{◌≡◌, ◌≢◌, ◌<◌, ◌≤◌, ◌+◌, ◌^◌, ◌∷◌, ◌↔◌, ◌⊎◌, ℕ, Some, length, max, slice_get, IsTrue, IsOk, IfOk, IfErr, OnOk, OnErr, vec_len};
+ghost use Rattle.std.specs.Prelude.{◌≡◌, ◌≢◌, ◌<◌, ◌≤◌, ◌+◌, ◌^◌, ◌∷◌, ◌↔◌, ◌⊎◌, ℕ, Some, length, max, slice_get, IsTrue, IsOk, IfSome, IfOk, IfErr, OnOk, OnErr, vec_len};
 ghost use Rattle.zr_nodes.specs.Lists.{numbers, first, after, without, Has};
-ghost use Rattle.zr_nodes.specs.Forests.{planted, grown, with_left, children, siblings, parent_of, IsClosed, IsForest};
+ghost use Rattle.zr_nodes.specs.Forests.{planted, grown, with_left, children, siblings, parent_of, IsChild, IsNextSibling, IsClosed, IsForest};
 
 use crate::NodeId;
 use crate::branches::Branches;
@@ -165,6 +165,8 @@ impl<T: Drop> Forest<T> {
     /// The first leaf left to do.
     pub fn first_left(&self) -> Option<NodeId>
         ensures first { result ≡ first self.now.left }
+        ensures listed { IfSome result (Has self.now.left) }
+        ensures inside { IfSome result (λ leaf. leaf < length self.now.items) }
         ensures kept { IsForest self.now }
     {
         self.leaves.first()
@@ -173,7 +175,9 @@ impl<T: Drop> Forest<T> {
     /// The leaf left to do that comes after one.
     pub fn next_left(&self, node: NodeId) -> Option<NodeId>
         requires { Has self.now.left node }
-        ensures { result ≡ after node self.now.left }
+        ensures after { result ≡ after node self.now.left }
+        ensures listed { IfSome result (Has self.now.left) }
+        ensures inside { IfSome result (λ leaf. leaf < length self.now.items) }
     {
         self.leaves.next(node)
     }
@@ -181,7 +185,8 @@ impl<T: Drop> Forest<T> {
     /// The parent of a node; the root alone has none.
     pub fn parent(&self, node: NodeId) -> Option<NodeId>
         requires { node < length self.now.items }
-        ensures { result ≡ parent_of self.now.parents node }
+        ensures parent { result ≡ parent_of self.now.parents node }
+        ensures child { IfSome result (λ parent. IsChild self.now node parent) }
     {
         self.branches.parent(node)
     }
@@ -189,7 +194,8 @@ impl<T: Drop> Forest<T> {
     /// The first child of a node.
     pub fn first_child(&self, node: NodeId) -> Option<NodeId>
         requires { node < length self.now.items }
-        ensures { result ≡ first (children self.now.parents node) }
+        ensures first { result ≡ first (children self.now.parents node) }
+        ensures child { IfSome result (λ child. IsChild self.now child node) }
     {
         self.branches.first_child(node)
     }
@@ -197,7 +203,8 @@ impl<T: Drop> Forest<T> {
     /// The child after a node among the children of its parent.
     pub fn next_sibling(&self, node: NodeId) -> Option<NodeId>
         requires { node < length self.now.items }
-        ensures { result ≡ after node (siblings self.now.parents node) }
+        ensures after { result ≡ after node (siblings self.now.parents node) }
+        ensures sibling { IfSome result (λ other. IsNextSibling self.now other node) }
     {
         self.branches.next_sibling(node)
     }

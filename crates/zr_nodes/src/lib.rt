@@ -8,3 +8,6 @@ mod node_id;
 
 pub use forest::Forest;
 pub use node_id::NodeId;
+
+#[cfg(test)]
+mod tests;
