@@ -8,14 +8,16 @@ use Rattle.zr_nodes.proofs.ListLemmas.{has_replaced, replaced_has, replaced_has_
 use Rattle.zr_nodes.proofs.Families.{children_others, children_new, tree_more}
 
 -- a node that no node has as its parent has no children
-no_children : (ps : List (Option ℕ)) (k node : ℕ) → ((j : ℕ) → parent_of ps j ≡ Some node → ⊥) → children_from k ps node ≡ []
+no_children : (ps : List (Option ℕ)) (k node : ℕ) → ((j : ℕ) → parent_of ps j ≡ Some node → ⊥)
+    → children_from k ps node ≡ []
 no_children [] k node free = refl
 no_children (None ∷ ps) k node free = no_children ps (k + 1) node (λ j. free (suc j))
 no_children (Some p ∷ ps) k node free =
     rw (ne_eqb p node (λ e. free 0 (ap Some e))) (no_children ps (k + 1) node (λ j. free (suc j)))
 
 -- numbers beyond the last node have no children
-pub childless_beyond : (ps : List (Option ℕ)) (node : ℕ) → IsTree ps → length ps ≤ node → children ps node ≡ []
+pub childless_beyond : (ps : List (Option ℕ)) (node : ℕ) → IsTree ps → length ps ≤ node
+    → children ps node ≡ []
 childless_beyond ps node tree beyond = no_children ps 0 node free
   where
     free : (j : ℕ) → parent_of ps j ≡ Some node → ⊥
@@ -29,7 +31,8 @@ childless_beyond ps node tree beyond = no_children ps 0 node free
             let is : r.0 ≡ node = cc in
             let small : r.0 < suc j = r.2 in
             omega arith
-        go (inr past) = let bad : None ≡ Some node = sym (get_or_past ps (suc j) None past) ∙ e in cc
+        go (inr past) = let bad : None ≡ Some node = sym (get_or_past ps (suc j) None past)
+            ∙ e in cc
 
 module _ {T : Type 0} where
   -- a leaf of the forest is left to do or was closed
@@ -47,11 +50,13 @@ module _ {T : Type 0} where
     size = kept.size;
     few = kept.few;
     once = kept.once;
-    leaves = λ k h. let leaf = kept.leaves k h in record { inside = leaf.inside; childless = leaf.childless };
+    leaves = λ k h. let leaf = kept.leaves k h in record
+        { inside = leaf.inside; childless = leaf.childless };
     all = λ k leaf. left_or_closed (record f { spare = spare }) k leaf;
   }
 
-  pub closed_spare : (f : Forest T) (spare k : ℕ) → IsClosed (record f { spare = spare }) k ↔ IsClosed f k
+  pub closed_spare : (f : Forest T) (spare k : ℕ)
+      → IsClosed (record f { spare = spare }) k ↔ IsClosed f k
   closed_spare f spare k = (
     λ closed. record {
       leaf = record { inside = closed.leaf.inside; childless = closed.leaf.childless };
@@ -65,13 +70,15 @@ module _ {T : Type 0} where
 
 module _ {T : Type 0} (f : Forest T) (kept : IsForest f) where
   -- another list of the same leaves left, or of some of them
-  kept_left : (left : List ℕ) → NoRepeats left → ((k : ℕ) → Has left k → Has f.left k) → IsForest (with_left f left)
+  kept_left : (left : List ℕ) → NoRepeats left → ((k : ℕ) → Has left k → Has f.left k)
+      → IsForest (with_left f left)
   kept_left left once within = record {
     tree = kept.tree;
     size = kept.size;
     few = kept.few;
     once = once;
-    leaves = λ k h. let leaf = kept.leaves k (within k h) in record { inside = leaf.inside; childless = leaf.childless };
+    leaves = λ k h. let leaf = kept.leaves k (within k h) in record
+        { inside = leaf.inside; childless = leaf.childless };
     all = λ k leaf. left_or_closed (with_left f left) k leaf;
   }
 
@@ -89,7 +96,8 @@ module _ {T : Type 0} (f : Forest T) (kept : IsForest f) where
     pub kept_without : IsForest (with_left f (without node f.left))
     kept_without = kept_left (without node f.left) once_without (λ k h. (within_without k h).0)
 
-    pub closed_without : (k : ℕ) → IsClosed (with_left f (without node f.left)) k ↔ (IsClosed f k ⊎ (k ≡ node))
+    pub closed_without : (k : ℕ)
+        → IsClosed (with_left f (without node f.left)) k ↔ (IsClosed f k ⊎ (k ≡ node))
     closed_without k = (forth, back)
       where
         forth : IsClosed (with_left f (without node f.left)) k → IsClosed f k ⊎ (k ≡ node)
@@ -119,9 +127,11 @@ module _ {T : Type 0} (f : Forest T) (kept : IsForest f) where
 
     pub kept_front : IsForest (with_left f (node ∷ without node f.left))
     kept_front =
-        kept_left (node ∷ without node f.left) (λ h. (within_without node h).1 refl, once_without) front_within
+        kept_left (node ∷ without node f.left) (λ h. (within_without node h).1 refl, once_without)
+        front_within
 
-    pub closed_front : (k : ℕ) → IsClosed (with_left f (node ∷ without node f.left)) k ↔ IsClosed f k
+    pub closed_front : (k : ℕ)
+        → IsClosed (with_left f (node ∷ without node f.left)) k ↔ IsClosed f k
     closed_front k = (forth, back)
       where
         forth : IsClosed (with_left f (node ∷ without node f.left)) k → IsClosed f k
@@ -144,16 +154,19 @@ module _ {T : Type 0} (f : Forest T) (kept : IsForest f) where
       inside : node < length f.items
       inside = (kept.leaves node here).inside
 
-      old_or_new : (k : ℕ) → Has (grown f node items).left k → Has (numbers (length f.items) (length items)) k ⊎ (Has f.left k × (k ≡ node → ⊥))
+      old_or_new : (k : ℕ) → Has (grown f node items).left k
+          → Has (numbers (length f.items) (length items)) k ⊎ (Has f.left k × (k ≡ node → ⊥))
       old_or_new k h =
           has_replaced f.left (numbers (length f.items) (length items)) node k kept.once h
 
-      pub children_grown : children (grown f node items).parents node ≡ numbers (length f.items) (length items)
+      pub children_grown : children (grown f node items).parents node
+          ≡ numbers (length f.items) (length items)
       children_grown =
           children_new f.parents node (length items) (kept.leaves node here).childless
           ∙ ap (λ (v : ℕ). numbers v (length items)) kept.size
 
-      pub others_grown : (k : ℕ) → (k ≡ node → ⊥) → children (grown f node items).parents k ≡ children f.parents k
+      pub others_grown : (k : ℕ) → (k ≡ node → ⊥)
+          → children (grown f node items).parents k ≡ children f.parents k
       others_grown k ne = children_others f.parents node (length items) k ne
 
       size_grown : length (grown f node items).items ≡ length f.items + length items
@@ -162,7 +175,8 @@ module _ {T : Type 0} (f : Forest T) (kept : IsForest f) where
       leaves_grown : (k : ℕ) → Has (grown f node items).left k → IsLeaf (grown f node items) k
       leaves_grown k h = go (old_or_new k h)
         where
-          go : Has (numbers (length f.items) (length items)) k ⊎ (Has f.left k × (k ≡ node → ⊥)) → IsLeaf (grown f node items) k
+          go : Has (numbers (length f.items) (length items)) k ⊎ (Has f.left k × (k ≡ node → ⊥))
+              → IsLeaf (grown f node items) k
           go (inl new) =
               let w = numbers_within (length f.items) (length items) k new in
               let there : node < length f.items = inside in
@@ -182,10 +196,22 @@ module _ {T : Type 0} (f : Forest T) (kept : IsForest f) where
 
       pub kept_grown : length f.items + length items < 2 ^ 32 → IsForest (grown f node items)
       kept_grown few = record {
-        tree = tree_more f.parents node (length items) kept.tree (let there : node < length f.items = inside in omega (arith, kept.size));
-        size = omega (arith, size_grown, length-append f.parents (replicate (length items) (Some node)), length-replicate (length items) (Some node), kept.size);
+        tree =
+            tree_more f.parents node (length items) kept.tree
+            (let there : node < length f.items = inside in omega (arith, kept.size));
+        size =
+            omega (
+              arith,
+              size_grown,
+              length-append f.parents
+                  (replicate (length items) (Some node)),
+              length-replicate (length items) (Some node),
+              kept.size,
+            );
         few = omega (arith, size_grown);
-        once = once_replaced f.left (numbers (length f.items) (length items)) node kept.once (numbers_once (length f.items) (length items))
+        once =
+            once_replaced f.left (numbers (length f.items) (length items)) node kept.once
+            (numbers_once (length f.items) (length items))
             (λ k b a.
             let w = numbers_within (length f.items) (length items) k b in
             let there : k < length f.items = (kept.leaves k a).inside in
@@ -195,31 +221,48 @@ module _ {T : Type 0} (f : Forest T) (kept : IsForest f) where
       }
 
       pub closed_grown : (k : ℕ) → IsClosed (grown f node items) k ↔ IsClosed f k
-      closed_grown k = (λ closed. forth closed (cases_eq k node) (cases_lt k (length f.items)), back)
+      closed_grown k =
+          (λ closed. forth closed (cases_eq k node) (cases_lt k (length f.items)), back)
         where
-          forth : IsClosed (grown f node items) k → (k ≡ node) ⊎ (k ≡ node → ⊥) → (k < length f.items) ⊎ (length f.items ≤ k) → IsClosed f k
+          forth : IsClosed (grown f node items) k → (k ≡ node) ⊎ (k ≡ node → ⊥)
+              → (k < length f.items) ⊎ (length f.items ≤ k) → IsClosed f k
           forth closed (inl e) _ =
-              let none : numbers (length f.items) (length items) ≡ [] = sym children_grown ∙ ap (children (grown f node items).parents) (sym e) ∙ closed.leaf.childless in
+              let none : numbers (length f.items) (length items) ≡ [] = sym children_grown
+              ∙ ap (children (grown f node items).parents) (sym e) ∙ closed.leaf.childless in
               let short : length (numbers (length f.items) (length items)) ≡ 0 = ap length none in
               absurd (omega (arith, length-numbers (length f.items) (length items)))
           forth closed (inr ne) (inl below) = record {
-            leaf = record { inside = below; childless = sym (others_grown k ne) ∙ closed.leaf.childless };
-            done = λ h. closed.done (replaced_has f.left (numbers (length f.items) (length items)) node k h ne);
+            leaf = record {
+              inside = below;
+              childless = sym (others_grown k ne)
+                  ∙ closed.leaf.childless;
+            };
+            done =
+                λ h. closed.done
+                (replaced_has f.left (numbers (length f.items) (length items)) node k h ne);
           }
           forth closed (inr ne) (inr above) =
               let last : k < length (grown f node items).items = closed.leaf.inside in
-              let new : Has (numbers (length f.items) (length items)) k = numbers_has (length f.items) (length items) k above (omega (arith, size_grown)) in
-              absurd (closed.done (replaced_has_new f.left (numbers (length f.items) (length items)) node k here new))
+              let new : Has (numbers (length f.items) (length items)) k =
+              numbers_has (length f.items) (length items) k above (omega (arith, size_grown)) in
+              absurd (closed.done
+              (replaced_has_new f.left (numbers (length f.items) (length items)) node k here
+              new))
 
           back : IsClosed f k → IsClosed (grown f node items) k
           back closed =
               let ne : k ≡ node → ⊥ = λ e. closed.done (subst (λ v. Has f.left v) (sym e) here) in
               let there : k < length f.items = closed.leaf.inside in
               record {
-                leaf = record { inside = omega (arith, size_grown); childless = others_grown k ne ∙ closed.leaf.childless };
+                leaf = record {
+                  inside = omega (arith, size_grown);
+                  childless = others_grown k ne
+                      ∙ closed.leaf.childless;
+                };
                 done = λ h.
                     ⊎_elim
-                    (λ (new : Has (numbers (length f.items) (length items)) k). let w = numbers_within (length f.items) (length items) k new in omega (arith, w.0))
+                    (λ (new : Has (numbers (length f.items) (length items)) k). let w =
+                    numbers_within (length f.items) (length items) k new in omega (arith, w.0))
                     (λ (old : Has f.left k × (k ≡ node → ⊥)). closed.done old.0)
                     (old_or_new k h);
               }

@@ -16,7 +16,8 @@ abbrev pub forest_code : {T : Type 0} → Coded T → Coded (Forest T)
 forest_code {T} code =
     code_by
     (List T × (List (Option ℕ) × (List ℕ × ℕ)))
-    (coded× (coded_list code) (coded× (coded_list (coded_option coded_ℕ)) (coded× (coded_list coded_ℕ) coded_ℕ)))
+    (coded× (coded_list code)
+    (coded× (coded_list (coded_option coded_ℕ)) (coded× (coded_list coded_ℕ) coded_ℕ)))
     (λ f. (f.items, (f.parents, (f.left, f.spare))))
     (λ p. record { items = p.0; parents = p.1.0; left = p.1.1.0; spare = p.1.1.1 })
     (λ _. refl)

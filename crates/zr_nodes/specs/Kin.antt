@@ -31,5 +31,9 @@ pub record IsKin (branches : List Branch) : Type 0 where
 abbrev pub brood : ℕ → ℕ → ℕ → List Branch
 brood node from zero = []
 brood node from (suc count) =
-    record { parent = Some node; first_child = None; next_sibling = first (numbers (from + 1) count) }
+    record {
+      parent = Some node;
+      first_child = None;
+      next_sibling = first (numbers (from + 1) count);
+    }
     ∷ brood node (from + 1) count

@@ -101,4 +101,5 @@ IsListed (In previous next) = ⊤
 abbrev pub bridged : ℕ → Option ℕ → Option ℕ → (ℕ → Place) → ℕ → Place
 bridged node start end places k =
     if k == node then Out
-    else with_previous (next_of (places node)) end (with_next (previous_of (places node)) start places) k
+    else
+    with_previous (next_of (places node)) end (with_next (previous_of (places node)) start places) k

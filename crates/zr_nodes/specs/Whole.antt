@@ -14,7 +14,8 @@ seen items kin leaves spare = record {
 }
 
 -- the parts are those of one forest, and each has room for the spare nodes
-pub record IsWhole {T : Type 0} (items : List T) (room : ℕ) (kin : Kin) (leaves : Left) (spare : ℕ) : Type 0 where
+pub record IsWhole {T : Type 0} (items : List T) (room : ℕ) (kin : Kin) (leaves : Left) (spare : ℕ)
+    : Type 0 where
   pub forest : IsForest (seen items kin leaves spare)
   pub size : leaves.size ≡ length items
   pub items_room : length items + spare ≤ room

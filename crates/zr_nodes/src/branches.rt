@@ -55,7 +55,10 @@ impl Model for Branches {
 
     ghost Value = { Kin };
 
-    ghost view = { λ a. record { parents = parents_of a.nodes.items; room = vec_capacity a.nodes } };
+    ghost view = { λ a. record {
+      parents = parents_of a.nodes.items;
+      room = vec_capacity a.nodes;
+    } };
 
     ghost invariant = { λ a. IsKin a.nodes.items };
 }

@@ -35,7 +35,8 @@ impl<T> Model for Forest<T> {
 
     ghost view = { λ f. seen f.items.items f.branches f.leaves f.spare };
 
-    ghost invariant = { λ f. IsWhole f.items.items (vec_capacity f.items) f.branches f.leaves f.spare };
+    ghost invariant = { λ f.
+        IsWhole f.items.items (vec_capacity f.items) f.branches f.leaves f.spare };
 }
 
 impl<T: Drop> Forest<T> {
@@ -106,8 +107,10 @@ impl<T: Drop> Forest<T> {
         requires some { 0 < vec_len items }
         requires few { length self.old.items + vec_len items < 2 ^ 32 }
         ensures ok { OnOk result (self.new ≡ grown self.old node items.items) }
-        ensures children { OnOk result (children self.new.parents node ≡ numbers (length self.old.items) (vec_len items)) }
-        ensures others { OnOk result ((k : ℕ) → k ≢ node → children self.new.parents k ≡ children self.old.parents k) }
+        ensures children { OnOk result (children self.new.parents node
+            ≡ numbers (length self.old.items) (vec_len items)) }
+        ensures others { OnOk result ((k : ℕ) → k ≢ node
+            → children self.new.parents k ≡ children self.old.parents k) }
         ensures closed { OnOk result ((k : ℕ) → IsClosed self.new k ↔ IsClosed self.old k) }
         ensures kept { IsForest self.new }
         ensures back { IfErr result (λ back. back.items ≡ items.items) }

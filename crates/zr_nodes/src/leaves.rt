@@ -54,7 +54,8 @@ fn set_next(places: &mut [Place], node: NodeId, next: Option<NodeId>)
 /// Makes `previous` the previous of a node.
 fn set_previous(places: &mut [Place], node: NodeId, previous: Option<NodeId>)
     requires { node < length places.old }
-    ensures { (k : ℕ) → place_at places.new k ≡ with_previous (Some node) previous (place_at places.old) k }
+    ensures { (k : ℕ) → place_at places.new k
+        ≡ with_previous (Some node) previous (place_at places.old) k }
 {
     if let Place::In { next, .. } = places[node.index()] {
         places[node.index()] = Place::In { previous, next };
@@ -81,7 +82,8 @@ fn lead_on(
 /// Lets the node, if there is one, follow `previous`.
 fn lead_back(places: &mut [Place], node: Option<NodeId>, previous: Option<NodeId>)
     requires { IsWithin node (length places.old) }
-    ensures { (k : ℕ) → place_at places.new k ≡ with_previous node previous (place_at places.old) k }
+    ensures { (k : ℕ) → place_at places.new k
+        ≡ with_previous node previous (place_at places.old) k }
 {
     if let Some(node) = node {
         set_previous(places, node, previous);
@@ -100,7 +102,8 @@ fn bridge(
     requires listed { IsListed (place_at places.old node) }
     requires before { IsWithin (previous_of (place_at places.old node)) (length places.old) }
     requires behind { IsWithin (next_of (place_at places.old node)) (length places.old) }
-    ensures places { (k : ℕ) → place_at places.new k ≡ bridged node first last (place_at places.old) k }
+    ensures places { (k : ℕ) → place_at places.new k
+        ≡ bridged node first last (place_at places.old) k }
     ensures start { start.new ≡ started (previous_of (place_at places.old node)) first start.old }
 {
     let Place::In { previous, next } = places[node.index()] else {
@@ -115,7 +118,8 @@ fn bridge(
 fn first_new(places: &[Place], node: NodeId, count: u32) -> Option<NodeId>
     requires inside { node < length places.now }
     requires few { length places.now + count < 2 ^ 32 }
-    ensures { result ≡ first_or (numbers (length places.now) count) (next_of (place_at places.now node)) }
+    ensures { result
+        ≡ first_or (numbers (length places.now) count) (next_of (place_at places.now node)) }
 {
     if count == 0 {
         next_at(places, node)
@@ -134,7 +138,8 @@ fn push_row(
 ) -> Option<NodeId>
     requires room { vec_len places.old + count ≤ vec_capacity places.old }
     requires few { vec_len places.old + count < 2 ^ 32 }
-    ensures items { places.new.items ≡ places.old.items ++ row previous (vec_len places.old) count next }
+    ensures items { places.new.items
+        ≡ places.old.items ++ row previous (vec_len places.old) count next }
     ensures len { vec_len places.new ≡ vec_len places.old + count }
     ensures last { result ≡ last_or previous (numbers (vec_len places.old) count) }
     ensures capacity { vec_capacity places.old ≤ vec_capacity places.new }
@@ -244,7 +249,8 @@ impl Leaves {
         requires room { self.old.size + count ≤ self.old.room }
         requires few { self.old.size + count < 2 ^ 32 }
         ensures size { self.new.size ≡ self.old.size + count }
-        ensures order { self.new.order ≡ replaced node (numbers self.old.size count) self.old.order }
+        ensures order { self.new.order
+            ≡ replaced node (numbers self.old.size count) self.old.order }
         ensures listing { IsListing self.old }
         ensures capacity { self.old.room ≤ self.new.room }
     {

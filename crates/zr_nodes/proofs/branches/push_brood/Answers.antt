@@ -6,9 +6,12 @@ use Rattle.zr_nodes.proofs.branches.push_brood.Goals as goal
 use Rattle.zr_nodes.proofs.branches.push_brood.Goals.{then-i-count, else-i-count}
 
 pub loop-i-init : goal.loop-i-init
-loop-i-init c = record { bearing = bearing_start _ _ _ _ _ (omega arith); len = omega arith; capacity = omega arith }
+loop-i-init c = record
+    { bearing = bearing_start _ _ _ _ _ (omega arith); len = omega arith; capacity = omega arith }
 
-next_is : (c : goal.In-Ok) → c.if-i-count.next_sibling ≡ first (numbers (vec_len c.loop-i.nodes + 1) (c.args.count - (c.loop-i.i + 1)))
+next_is : (c : goal.In-Ok)
+    → c.if-i-count.next_sibling
+    ≡ first (numbers (vec_len c.loop-i.nodes + 1) (c.args.count - (c.loop-i.i + 1)))
 next_is c =
     elim c.if-i-count.branch [
       | then-i-count w ↦ w.next_sibling-is ∙ after_last _ _ _ (omega arith)
@@ -27,4 +30,6 @@ loop-i-preserved c = record {
 
 pub returns-clause-items : goal.returns-clause-items
 returns-clause-items c =
-    let ends = bearing_end _ _ _ _ _ _ _ (omega arith) c.loop-i.invariant.bearing in simp append-nil at ends
+    let ends =
+    bearing_end _ _ _ _ _ _ _ (omega arith) c.loop-i.invariant.bearing in simp append-nil at
+    ends

@@ -11,7 +11,9 @@ loop-i-init c = record {
   capacity = omega arith;
 }
 
-after_is : (c : goal.After-new-in-loop-i) → c.if-i-count.after ≡ first_or (numbers (vec_len c.loop-i.places + 1) (c.args.count - (c.loop-i.i + 1))) c.args.next
+after_is : (c : goal.After-new-in-loop-i)
+    → c.if-i-count.after
+    ≡ first_or (numbers (vec_len c.loop-i.places + 1) (c.args.count - (c.loop-i.i + 1))) c.args.next
 after_is c =
     elim c.if-i-count.branch [
       | then-i-count w ↦ w.after-is ∙ after_last _ _ _ (omega arith)
@@ -22,7 +24,8 @@ after_is c =
 
 pub loop-i-preserved : goal.loop-i-preserved
 loop-i-preserved c = record {
-  growing = rw (c.in-Ok.ensures.items, c.in-Ok.ensures.len, c.new-in-loop-i.ensures, c.len-number.ensures)
+  growing =
+      rw (c.in-Ok.ensures.items, c.in-Ok.ensures.len, c.new-in-loop-i.ensures, c.len-number.ensures)
       (growing_step _ _ _ _ _ _ _ _ _ _ _ (omega arith) (after_is c) c.loop-i.invariant.growing);
   len = omega (arith, c.in-Ok.ensures.len);
   capacity = omega (arith, c.in-Ok.ensures.capacity);
@@ -30,7 +33,9 @@ loop-i-preserved c = record {
 
 pub returns-clause-items : goal.returns-clause-items
 returns-clause-items c =
-    let ends = growing_end _ _ _ _ _ _ _ _ _ (omega arith) c.loop-i.invariant.growing in simp append-nil at ends.0
+    let ends =
+    growing_end _ _ _ _ _ _ _ _ _ (omega arith) c.loop-i.invariant.growing in simp append-nil at
+    ends.0
 
 pub returns-clause-last : goal.returns-clause-last
 returns-clause-last c = (growing_end _ _ _ _ _ _ _ _ _ (omega arith) c.loop-i.invariant.growing).1

@@ -9,7 +9,8 @@ invariant_of-self g c =
 
 pub returns-clause-closed : goal.returns-clause-closed
 returns-clause-closed g c =
-    closed_closed _ _ _ _ _ c.self.invariant c.args.self.now c.self.view_is c.args.node c.requires c.replace.new.self
+    closed_closed _ _ _ _ _ c.self.invariant c.args.self.now c.self.view_is c.args.node c.requires
+    c.replace.new.self
     (omega (arith, c.replace.ensures.size)) c.replace.ensures.capacity c.replace.ensures.order
 
 pub returns-clause-kept : goal.returns-clause-kept

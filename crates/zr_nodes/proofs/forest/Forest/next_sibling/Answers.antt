@@ -8,5 +8,6 @@ pub returns-clause-sibling : goal.returns-clause-sibling
 returns-clause-sibling g c =
     let kept = subst (λ v. IsForest v) c.self.view_is c.self.invariant.forest in
     let here = c.args.node in
-    let is = c.next_sibling.ensures ∙ ap (λ v. after here (siblings v.parents here)) c.self.view_is in
+    let is = c.next_sibling.ensures
+    ∙ ap (λ v. after here (siblings v.parents here)) c.self.view_is in
     next_is_sibling c.args.self.now kept here c.next_sibling.result is

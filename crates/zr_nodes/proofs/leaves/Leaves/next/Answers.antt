@@ -5,7 +5,8 @@ use Rattle.zr_nodes.proofs.leaves.Leaves.next.Goals as goal
 
 pub next_at-requires : goal.next_at-requires
 next_at-requires c =
-    rw c.deref.ensures.value (order_within _ _ _ _ (ap (λ v. v.order) c.self.view_is) c.self.invariant c.requires)
+    rw c.deref.ensures.value
+    (order_within _ _ _ _ (ap (λ v. v.order) c.self.view_is) c.self.invariant c.requires)
 
 pub returns : goal.returns
 returns c =
