@@ -13,9 +13,8 @@ use zr_base::NoMemory;
 /// do.
 ///
 /// Each leaf was closed or stands once in the list. A node's number stays as it is for good. The
-/// links are Knuth's for trees and for lists in both directions (1968), by numbers in place of
-/// addresses: every call takes as many steps at most, whatever the size of the forest, but for
-/// those that add nodes.
+/// links are those of D. Knuth (1968) for trees and for lists in both directions, by numbers in
+/// place of addresses. There are fewer than 2^32 nodes.
 #[derive(Debug, Drop)]
 pub struct Forest<T> {
     items: Vec<T>,
