@@ -1,0 +1,14 @@
+pub mod Sums
+pub mod Multipliers
+pub mod Programs
+pub mod Answered
+pub mod Pairs
+pub mod Expanded
+pub mod SameAnswers
+pub mod SameProfiles
+pub mod BaseProfiles
+pub mod Equilibria
+pub mod CountLaws
+pub mod Steps
+pub mod ExpandedForms
+pub mod LeaderForms
