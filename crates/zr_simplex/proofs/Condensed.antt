@@ -1,14 +1,13 @@
 -- Condensed equations, and the basic form that they stand for.
-use Rattle.std.proofs.Common.{◌≡◌, ◌≢◌, ℕ, ◌+◌, ◌<◌, arith, refl, sym, ap, subst, ◌∙◌, ⊎_elim, ℤ, pos, ◌-ℤ◌, ◌*ℤ◌, ◌<ℤ◌, unsigned_abs, List, length, set, slice_index, get_or-set_same, get_or-set_other, length-set, Err}
+use Rattle.std.proofs.Common.{◌≡◌, ◌≢◌, ℕ, ◌+◌, ◌<◌, arith, refl, sym, ap, subst, ◌∙◌, ⊎_elim, ℤ, pos, ◌-ℤ◌, ◌*ℤ◌, unsigned_abs, List, length, set, slice_index, get_or-set_same, get_or-set_other, length-set}
 use Rattle.std.proofs.lemmas.Bool.{cases_eq}
 use Rattle.std.proofs.lemmas.Bool.Decides.{nat_tests}
 use Rattle.std.proofs.lemmas.Int.{ints}
 use Rattle.std.proofs.lemmas.Nat.Gcd.{dvd-zero}
 use Rattle.std.specs.Int.{◌∣◌}
-use Rattle.zr_base.specs.Steps.{cross_of}
 use Rattle.zr_base.specs.declared.step.Wide.{Wide}
 use Rattle.zr_simplex.specs.declared.columns.Column.{Column}
-use Rattle.zr_simplex.specs.declared.columns.Column.TheVariants.{Basic, Free}
+use Rattle.zr_simplex.specs.declared.columns.Column.TheVariants.{Basic}
 use Rattle.zr_simplex.specs.Programs.{numbers}
 use Rattle.zr_basis.specs.BasicForms.{IsReduced}
 use Rattle.zr_simplex.specs.StuckSteps.{IsWidePivot}

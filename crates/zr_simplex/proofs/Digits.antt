@@ -1,5 +1,5 @@
 -- A digit of a number in binary is turned.
-use Rattle.std.proofs.Common.{◌≡◌, ℕ, zero, suc, ◌+◌, ◌*◌, ◌^◌, ◌<◌, arith, refl, ap, ◌∙◌, Bool, true, false, List, [], ◌∷◌, All, length, set, get_or}
+use Rattle.std.proofs.Common.{◌≡◌, ℕ, zero, suc, ◌+◌, ◌^◌, ◌<◌, arith, refl, ap, Bool, true, false, List, [], ◌∷◌, All, length, set, get_or}
 use Rattle.std.proofs.Math.Nat.{pow-succ'}
 use Rattle.zr_simplex.specs.Binaries.{digit_of, number_of}
 

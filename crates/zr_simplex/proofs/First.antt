@@ -5,7 +5,7 @@ use Rattle.zr_simplex.specs.declared.columns.Column.{Column}
 use Rattle.zr_simplex.specs.declared.columns.Column.TheVariants.{Basic, Free}
 use Rattle.zr_simplex.specs.Programs.{numbers}
 use Rattle.zr_simplex.specs.RowSteps.{IsFirst, IsStart}
-use Rattle.zr_simplex.specs.Tableaus.{AreColumns, Holds, IsAt, column_at}
+use Rattle.zr_simplex.specs.Tableaus.{AreColumns, Holds, column_at}
 use Rattle.zr_simplex.proofs.Condensed.{full, full_free, full_own, full_zero}
 
 -- the first columns off the basis, then the slacks and the value's in it, and last that of the right sides off it

@@ -1,11 +1,10 @@
 -- The state of the method between two pivots: the run so far, and what was counted.
-use Rattle.std.proofs.Common.{◌≡◌, ◌≢◌, ℕ, suc, ◌+◌, ◌-◌, ◌^◌, ◌<◌, ◌≤◌, arith, min, refl, sym, ap, subst, ◌∙◌, ℤ, pos, ◌<ℤ◌, List, length, slice_index, Option, None, Some, MatchOption, ◌⊎◌, inl, inr, ⊎_elim}
+use Rattle.std.proofs.Common.{◌≡◌, ◌≢◌, ℕ, suc, ◌+◌, ◌-◌, ◌^◌, ◌<◌, ◌≤◌, arith, refl, sym, ap, subst, ◌∙◌, ℤ, pos, List, length, slice_index, Option, None, Some, MatchOption, inl, inr, ⊎_elim}
 use Rattle.std.proofs.lemmas.Int.{ints}
 use Rattle.zr_io.specs.Faults.{next_count}
 use Rattle.zr_io.specs.Purses.{Spends}
 use Rattle.zr_io.specs.declared.purse.Purse.{Purse}
 use Rattle.zr_io.specs.declared.purse.Unit.TheVariants.{Pivot as APivot}
-use Rattle.zr_lin.specs.declared.stuck.Step.{Step}
 use Rattle.zr_basis.specs.Programs.{Program}
 use Rattle.zr_basis.specs.BasicForms.{value_column, IsBasicForm}
 use Rattle.zr_basis.specs.Bases.{Exchanges}

@@ -1,12 +1,12 @@
 -- What callers see of a tableau, by the lists that it keeps.
-use Rattle.std.proofs.Common.{◌≡◌, ◌≢◌, ℕ, ◌+◌, ◌*◌, ◌<◌, arith, refl, sym, ap, subst, ◌∙◌, ⊎_elim, ℤ, pos, ◌<ℤ◌, List, length, set, slice_index}
+use Rattle.std.proofs.Common.{◌≡◌, ◌≢◌, ℕ, ◌+◌, ◌<◌, arith, refl, ap, subst, ⊎_elim, ℤ, pos, ◌<ℤ◌, List, length, slice_index}
 use Rattle.std.proofs.lemmas.Bool.{cases_eq}
 use Rattle.std.proofs.lemmas.Int.{ints}
 use Rattle.zr_simplex.specs.declared.columns.Column.{Column}
 use Rattle.zr_simplex.specs.declared.columns.Column.TheVariants.{Basic, Free}
 use Rattle.zr_simplex.specs.Programs.{numbers}
 use Rattle.zr_basis.specs.BasicForms.{IsReduced}
-use Rattle.zr_simplex.specs.RowSteps.{IsExchange, IsPivot, IsSolved}
+use Rattle.zr_simplex.specs.RowSteps.{IsPivot, IsSolved}
 use Rattle.zr_simplex.specs.Tableaus.{AreColumns, Holds, column_at, form_in, number_at, row_in}
 use Rattle.zr_simplex.proofs.Stands.{partition_of}
 use Rattle.zr_simplex.proofs.Condensed.{full_own, full_reads, full_zero, reduced_in, zero_number}

@@ -1,5 +1,5 @@
 -- A stop at the end of a run.
-use Rattle.std.proofs.Common.{◌≡◌, ℕ, ◌+◌, ℤ, sym, subst, List, length, slice_index, Ok, Err}
+use Rattle.std.proofs.Common.{◌≡◌, ℕ, ◌+◌, ℤ, subst, List, length, slice_index, Ok, Err}
 use Rattle.std.specs.Prelude.{Result, IfOk, IfErr}
 use Rattle.zr_base.specs.declared.step.Wide.{Wide}
 use Rattle.zr_io.specs.declared.purse.Purse.{Purse}
@@ -13,7 +13,7 @@ use Rattle.zr_simplex.specs.declared.basic.Miss.TheVariants as AMiss
 use Rattle.zr_simplex.specs.declared.program.LpAnswer.{LpAnswer}
 use Rattle.zr_simplex.specs.Answers.{IsBasicAnswer}
 use Rattle.zr_simplex.specs.StuckSteps.{IsWideStep}
-use Rattle.zr_simplex.specs.Causes.{CountsPivots, IsDueStep, IsEndStep, IsReachedAnswer, IsStuckAfter}
+use Rattle.zr_simplex.specs.Causes.{IsDueStep, IsEndStep, IsReachedAnswer, IsStuckAfter}
 use Rattle.zr_simplex.specs.Halts.{HasRun, IsMiss, IsMissAfter}
 
 -- each step of an end is due there

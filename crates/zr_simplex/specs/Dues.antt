@@ -1,5 +1,5 @@
 -- The equations of a program that the method keeps, and what is due at them.
-use Rattle.std.specs.Prelude.{◌≡◌, ℕ, ◌+◌, ◌<◌, ℤ, pos, ◌*ℤ◌, ◌+ℤ◌, ◌<ℤ◌, ◌≤ℤ◌, List, length, slice_index}
+use Rattle.std.specs.Prelude.{◌≡◌, ℕ, ◌+◌, ◌<◌, ℤ, ◌*ℤ◌, ◌+ℤ◌, List, length, slice_index}
 use Rattle.zr_base.specs.Sums.{sum_to}
 use Rattle.zr_simplex.specs.declared.choose.Due.{Due}
 use Rattle.zr_simplex.specs.declared.choose.Due.TheVariants.{Best, Empty, Unbounded, Pivot}

@@ -1,4 +1,4 @@
-use Rattle.std.proofs.Common.{rules, ◌≡◌, pos, arith, refl, ap, ◌∙◌, length, take, FitsSigned}
+use Rattle.std.proofs.Common.{rules, ◌≡◌, pos, arith, ap, ◌∙◌, length, take, FitsSigned}
 use Rattle.std.proofs.lemmas.Int.{to_z-of_z}
 use Rattle.std.specs.Int.{w128}
 use Rattle.std.proofs.lemmas.List.{get_or-take, length-take-le}

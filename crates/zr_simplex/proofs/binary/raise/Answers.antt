@@ -1,6 +1,5 @@
-use Rattle.std.proofs.Common.{rules, ◌≡◌, ◌+◌, ◌*◌, ◌^◌, arith, sym, true, false, get_or, length, ap, ◌∙◌}
+use Rattle.std.proofs.Common.{rules, ◌≡◌, ◌+◌, ◌*◌, ◌^◌, arith, true, false, get_or, ap, ◌∙◌}
 use Rattle.std.proofs.Math.Nat.{pow-succ'}
-use Rattle.zr_simplex.specs.Binaries.{number_of}
 use Rattle.zr_simplex.proofs.Digits.{digit_cleared, digit_set}
 use Rattle.zr_simplex.proofs.binary.raise.Goals as goal
 

@@ -1,4 +1,4 @@
-use Rattle.std.proofs.Common.{◌≡◌, ◌+◌, ◌^◌, length}
+use Rattle.std.proofs.Common.{◌≡◌, ◌+◌, ◌^◌}
 use Rattle.zr_simplex.specs.Binaries.{number_of}
 use Rattle.zr_simplex.proofs.binary.raise.Given as goal
 

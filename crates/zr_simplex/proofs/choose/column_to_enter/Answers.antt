@@ -1,4 +1,4 @@
-use Rattle.std.proofs.Common.{rules, ◌≡◌, ◌<◌, ◌+◌, arith, pos, ◌<ℤ◌, ◌≤ℤ◌, FitsSigned, length}
+use Rattle.std.proofs.Common.{rules, ◌≡◌, ◌<◌, arith, pos, ◌<ℤ◌, ◌≤ℤ◌, FitsSigned, length}
 use Rattle.std.specs.Int.{w128}
 use Rattle.zr_basis.specs.BasicForms.{value_column}
 use Rattle.zr_basis.proofs.Picked.{column_found, column_skipped, column_taken}

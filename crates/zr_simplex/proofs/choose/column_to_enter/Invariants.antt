@@ -1,6 +1,6 @@
 use Rattle.zr_basis.specs.Dual.{IsRayBelow}
 use Rattle.zr_basis.proofs.Least.{IsBestSoFar}
-use Rattle.std.proofs.Common.{ℕ, ◌<◌, pos, ◌<ℤ◌}
+use Rattle.std.proofs.Common.{◌<◌, pos, ◌<ℤ◌}
 use Rattle.zr_basis.specs.BasicForms.{value_column}
 use Rattle.zr_simplex.specs.Programs.{program_of}
 use Rattle.zr_simplex.specs.Tableaus.{basis_of, form_of}

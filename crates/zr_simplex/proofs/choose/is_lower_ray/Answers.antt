@@ -1,4 +1,4 @@
-use Rattle.std.proofs.Common.{rules, ◌≡◌, ◌≢◌, ◌<◌, ◌≤◌, ◌+◌, ℕ, ℤ, arith, sym, ap, ◌∙◌, neg_ℤ, ◌*ℤ◌, ⊎_elim, length}
+use Rattle.std.proofs.Common.{◌≡◌, ◌≢◌, ◌<◌, ◌≤◌, ◌+◌, ℕ, ℤ, arith, sym, ap, ◌∙◌, neg_ℤ, ◌*ℤ◌, ⊎_elim, length}
 use Rattle.std.proofs.lemmas.Bool.{cases_eq}
 use Rattle.zr_basis.specs.Programs.{Program}
 use Rattle.zr_basis.specs.BasicForms.{IsBasicForm, value_column}

@@ -1,4 +1,4 @@
-use Rattle.std.proofs.Common.{subst, slice_index, ℕ}
+use Rattle.std.proofs.Common.{subst, slice_index}
 use Rattle.zr_simplex.specs.Programs.{program_of}
 use Rattle.zr_simplex.specs.Tableaus.{form_of}
 use Rattle.zr_simplex.specs.Dues.{IsImprovingDue}

@@ -1,4 +1,4 @@
-use Rattle.std.proofs.Common.{rules, ◌≡◌, ◌+◌, ◌-◌, ◌*◌, ◌^◌, ◌<◌, ◌≤◌, ℕ, arith, ap, sym, ◌∙◌, List, length, slice_index, Bool, false}
+use Rattle.std.proofs.Common.{rules, ◌≡◌, ◌+◌, ◌^◌, ◌<◌, arith, ap, sym, ◌∙◌, length, slice_index}
 use Rattle.zr_basis.specs.BasicForms.{value_column}
 use Rattle.zr_basis.proofs.Counting.{choices_below_power}
 use Rattle.zr_simplex.specs.Programs.{program_of}

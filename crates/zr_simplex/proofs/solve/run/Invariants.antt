@@ -1,4 +1,4 @@
-use Rattle.std.proofs.Common.{◌≡◌, ◌+◌, ◌-◌, ℕ, length, MatchOption}
+use Rattle.std.proofs.Common.{◌≡◌, ◌-◌, length, MatchOption}
 use Rattle.zr_basis.specs.BasicForms.{value_column}
 use Rattle.zr_basis.specs.Choices.{choose}
 use Rattle.zr_simplex.specs.Programs.{program_of}
