@@ -1,5 +1,5 @@
 -- The equations at the start are a basic form.
-use Rattle.std.proofs.Common.{◌≡◌, ◌≢◌, ℕ, ◌+◌, ◌<◌, ◌≤◌, arith, sym, ap, ◌∙◌, ℤ, pos, neg_ℤ, ◌-ℤ◌, ◌*ℤ◌, ⊎_elim}
+use Rattle.std.proofs.Common.{◌≡◌, ◌≢◌, ℕ, ◌+◌, ◌<◌, ◌≤◌, arith, sym, ap, ◌∙◌, ℤ, pos, neg_ℤ, ◌+ℤ◌, ◌-ℤ◌, ◌*ℤ◌, ⊎_elim}
 use Rattle.std.proofs.Math.Nat.{le_of_dvd, pos_of_dvd_of_pos}
 use Rattle.std.proofs.lemmas.Bool.{cases_eq}
 use Rattle.std.proofs.lemmas.Int.{ints}
@@ -8,7 +8,7 @@ use Rattle.zr_base.specs.Sums.{sum_to}
 use Rattle.zr_base.proofs.Dense.{sum_to_same}
 use Rattle.zr_basis.specs.Programs.{Program}
 use Rattle.zr_basis.specs.BasicForms.{CombinesEquations, IsReduced, IsBasicForm}
-use Rattle.zr_simplex.specs.Dues.{IsComplete}
+use Rattle.zr_simplex.specs.Dues.{HoldsAt, IsComplete}
 use Rattle.zr_simplex.specs.RowSteps.{IsStart}
 use Rattle.zr_simplex.proofs.Sums.{sum_to-append, sum_to-all_zero, sum_to-single}
 
@@ -39,21 +39,32 @@ aim_case e s v a p q r =
     let m = times_one v a q in
     omega (arith, ints, p, m, r)
 
-module _ (p : Program) (form : ℕ → ℕ → ℤ) (start : (i : ℕ) → i < p.rows → IsStart p.columns (p.columns + p.rows) (p.columns + i) (p.coef i) (p.le i) (form i)) (last : IsStart p.columns (p.columns + p.rows) (p.columns + p.rows) (λ j. neg_ℤ (p.aim j)) (pos 0) (form p.rows)) where
-  -- only its own slack stands in a row
-  own_slack : (i : ℕ) → i < p.rows → (a : ℕ → ℤ) → sum_to p.rows (λ r. form i (p.columns + r) *ℤ a r) ≡ a i
-  own_slack i h a =
-      sum_to-single p.rows i (λ r. form i (p.columns + r) *ℤ a r) h (λ r q apart. times_zero (form i (p.columns + r)) (a r) ((start i h).zeros (p.columns + r) (omega arith) (omega arith) (λ e. apart (omega (arith, e))))) ∙ times_one (form i (p.columns + i)) (a i) (start i h).one
+-- one row
+module _ (p : Program) (i : ℕ) (h : i < p.rows) (e : ℕ → ℤ) (start : IsStart p.columns (p.columns + p.rows) (p.columns + i) (p.coef i) (p.le i) e) where
+  -- only its own slack stands in it
+  own_slack : (a : ℕ → ℤ) → sum_to p.rows (λ r. e (p.columns + r) *ℤ a r) ≡ a i
+  own_slack a =
+      sum_to-single p.rows i (λ r. e (p.columns + r) *ℤ a r) h (λ r q apart. times_zero (e (p.columns + r)) (a r) (start.zeros (p.columns + r) (omega arith) (omega arith) (λ s. apart (omega (arith, s))))) ∙ times_one (e (p.columns + i)) (a i) start.one
 
+  pub row_combination : CombinesEquations p e
+  row_combination = record {
+    columns = λ j q. row_case (e j) (sum_to p.rows (λ r. e (p.columns + r) *ℤ p.coef r j)) (e (p.columns + p.rows)) (p.aim j) (own_slack (λ r. p.coef r j) ∙ sym (start.coefs j q)) (start.zeros (p.columns + p.rows) (omega arith) (omega arith) (λ s. let b : i < p.rows = h in omega (arith, s, b)));
+    right = start.right ∙ sym (own_slack p.le);
+  }
+
+  pub row_slack : (x : ℕ → ℤ) (d : ℤ) → HoldsAt p e x d → sum_to p.columns (λ j. p.coef i j *ℤ x j) +ℤ x (p.columns + i) ≡ p.le i *ℤ d
+  row_slack x d at =
+      let n = p.columns in
+      let split = sum_to-append n p.rows (λ j. e j *ℤ x j) in
+      let coefs = sum_to_same n (λ j. e j *ℤ x j) (λ j. p.coef i j *ℤ x j) (λ j q. ap (λ z. z *ℤ x j) (start.coefs j q)) in
+      let slack = own_slack (λ k. x (n + k)) in
+      let right = ap (λ z. z *ℤ d) start.right in
+      omega (arith, ints, split, coefs, slack, at, right)
+
+module _ (p : Program) (form : ℕ → ℕ → ℤ) (start : (i : ℕ) → i < p.rows → IsStart p.columns (p.columns + p.rows) (p.columns + i) (p.coef i) (p.le i) (form i)) (last : IsStart p.columns (p.columns + p.rows) (p.columns + p.rows) (λ j. neg_ℤ (p.aim j)) (pos 0) (form p.rows)) where
   no_slack : (a : ℕ → ℤ) → sum_to p.rows (λ r. form p.rows (p.columns + r) *ℤ a r) ≡ pos 0
   no_slack a =
       sum_to-all_zero p.rows (λ r. form p.rows (p.columns + r) *ℤ a r) (λ r q. times_zero (form p.rows (p.columns + r)) (a r) (last.zeros (p.columns + r) (omega arith) (omega arith) (λ e. omega (arith, e, q))))
-
-  row_combination : (i : ℕ) → i < p.rows → CombinesEquations p (form i)
-  row_combination i h = record {
-    columns = λ j q. row_case (form i j) (sum_to p.rows (λ r. form i (p.columns + r) *ℤ p.coef r j)) (form i (p.columns + p.rows)) (p.aim j) (own_slack i h (λ r. p.coef r j) ∙ sym ((start i h).coefs j q)) ((start i h).zeros (p.columns + p.rows) (omega arith) (omega arith) (λ e. let b : i < p.rows = h in omega (arith, e, b)));
-    right = (start i h).right ∙ sym (own_slack i h p.le);
-  }
 
   aim_combination : CombinesEquations p (form p.rows)
   aim_combination = record {
@@ -71,18 +82,11 @@ module _ (p : Program) (form : ℕ → ℕ → ℤ) (start : (i : ℕ) → i < p
   start_form basis is = record {
     columns = λ i h. rw (is i (omega arith)) (omega arith);
     value = is p.rows (omega arith);
-    combination = λ i h. ⊎_elim (λ (e : i ≡ p.rows). rw e aim_combination) (λ (a : i ≢ p.rows). row_combination i (omega arith)) (cases_eq i p.rows);
+    combination = λ i h. ⊎_elim (λ (e : i ≡ p.rows). rw e aim_combination) (λ (a : i ≢ p.rows). let q : i < p.rows = omega arith in row_combination p i q (form i) (start i q)) (cases_eq i p.rows);
     own = λ i h. rw (is i h, one_at i h) (omega (arith, ints));
     other = λ i k h q apart. rw (is k q) (zero_at i k h q apart);
     reduced = λ i h. reduced_by_one (p.columns + p.rows + 2) (p.columns + i) (form i) (omega arith) (one_at i h);
   }
 
   pub start_complete : IsComplete p form
-  start_complete x d holds r h =
-      let n = p.columns in
-      let split = sum_to-append n p.rows (λ j. form r j *ℤ x j) in
-      let coefs = sum_to_same n (λ j. form r j *ℤ x j) (λ j. p.coef r j *ℤ x j) (λ j q. ap (λ z. z *ℤ x j) ((start r h).coefs j q)) in
-      let slack = own_slack r h (λ k. x (n + k)) in
-      let at = holds r h in
-      let right = ap (λ z. z *ℤ d) (start r h).right in
-      omega (arith, ints, split, coefs, slack, at, right)
+  start_complete x d holds r h = row_slack p r h (form r) (start r h) x d (holds r h)

@@ -31,7 +31,7 @@ module _ {width : ℕ} {basis free : List ℕ} (part : IsPartition width basis f
   reduced_in e xs reads zeros reduced d all =
       reduced d (each_column part (λ j. d ∣ unsigned_abs (e j)) (λ k h. rw (reads.off k h) (all k (omega (arith, h)))) (λ k h. ⊎_elim (λ (s : k ≡ i). rw (s, reads.own) (all (length free) (omega arith))) (λ (a : k ≢ i). rw (zeros k h a) (dvd-zero d)) (cases_eq k i)))
 
-  reduced_out : (e xs : ℕ → ℤ) → Reads basis free i e xs → IsReduced (length free + 1) xs → IsReduced width e
+  pub reduced_out : (e xs : ℕ → ℤ) → Reads basis free i e xs → IsReduced (length free + 1) xs → IsReduced width e
   reduced_out e xs reads reduced d all =
       reduced d (λ k h. ⊎_elim (λ (s : k ≡ length free). rw (s, ← reads.own) (all (slice_index basis i) (part.basic_below i inside))) (λ (a : k ≢ length free). let q : k < length free = omega (arith, h, a) in rw (← reads.off k q) (all (slice_index free k) (part.free_below k q))) (cases_eq k (length free)))
 
@@ -57,7 +57,7 @@ module _ {width : ℕ} {basis free : List ℕ} (part : IsPartition width basis f
 abbrev pub full : List Column → ℕ → ℕ → List ℤ → ℕ → ℤ
 full columns own i xs j = number_at own i xs (column_at columns j)
 
-own_number : (own i : ℕ) (xs : List ℤ) → number_at own i xs (Basic i) ≡ numbers xs own
+pub own_number : (own i : ℕ) (xs : List ℤ) → number_at own i xs (Basic i) ≡ numbers xs own
 own_number own i xs = grind (arith, nat_tests)
 
 pub zero_number : (own i : ℕ) (xs : List ℤ) (k : ℕ) → k ≢ i → number_at own i xs (Basic k) ≡ pos 0

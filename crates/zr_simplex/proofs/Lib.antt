@@ -7,6 +7,10 @@ mod Grids
 mod Turn
 mod Stands
 mod Held
+mod Enlarged
+mod Appended
+mod Added
+mod Appending
 mod First
 mod Swaps
 mod Condensed

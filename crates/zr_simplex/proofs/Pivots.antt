@@ -53,7 +53,7 @@ mixture_zero : (made by less k e f : ℤ) → k ≢ pos 0 → made *ℤ k ≡ by
 mixture_zero made by less k e f apart h i j = zero_if made k apart (h ∙ rw (i, j) (omega (arith, ints)))
 
 -- what holds at the made equations holds at those that they were made of
-held : (s t u by less k made e f d : ℤ) → by ≢ pos 0 → s *ℤ k ≡ by *ℤ t -ℤ less *ℤ u → made *ℤ k ≡ by *ℤ e -ℤ less *ℤ f → s ≡ made *ℤ d → u ≡ f *ℤ d → t ≡ e *ℤ d
+pub held : (s t u by less k made e f d : ℤ) → by ≢ pos 0 → s *ℤ k ≡ by *ℤ t -ℤ less *ℤ u → made *ℤ k ≡ by *ℤ e -ℤ less *ℤ f → s ≡ made *ℤ d → u ≡ f *ℤ d → t ≡ e *ℤ d
 held s t u by less k made e f d apart p h i j =
     cancel_apart t (e *ℤ d) by apart (let a = simp spread at (rw (i, j) at p) in let b = simp spread at (ap (λ v. v *ℤ d) h) in simp spread (omega (arith, ints, a, b)))
 

@@ -1,6 +1,7 @@
 -- Where the columns of a tableau stand.
-use Rattle.std.proofs.Common.{◌≡◌, ◌≢◌, ℕ, ◌<◌, arith, sym, ap, ◌∙◌, ◌⊎◌, inl, inr, ⊎_elim, List, length, set, slice_index, length-set, get_or-set_same, get_or-set_other}
-use Rattle.std.proofs.lemmas.Bool.{cases_eq}
+use Rattle.std.proofs.Common.{◌≡◌, ◌≢◌, ℕ, ◌+◌, ◌<◌, ◌≤◌, arith, sym, ap, ◌∙◌, ◌⊎◌, inl, inr, ⊎_elim, List, [], ◌∷◌, ◌++◌, length, length-append, set, slice_index, length-set, get_or-set_same, get_or-set_other}
+use Rattle.std.proofs.lemmas.Bool.{cases_eq, cases_lt}
+use Rattle.std.proofs.lemmas.List.{get_or_push, get_or_append_left}
 use Rattle.zr_simplex.specs.declared.columns.Column.{Column}
 use Rattle.zr_simplex.specs.declared.columns.Column.TheVariants.{Basic, Free}
 use Rattle.zr_simplex.specs.Tableaus.{AreColumns, Holds, IsAt, IsPartition, column_at}
@@ -82,4 +83,73 @@ module _ (basis free : List ℕ) (columns : List Column) (are : AreColumns basis
     basic_at = λ i h. new_basic i (rw (length-set basis r (slice_index free place)) at h);
     free_at = λ k h. new_free k (rw (length-set free place (slice_index basis r)) at h);
     each = λ j h. new_each j (rw exchanged-length at h);
+  }
+
+-- a slack column comes in before the value's, which is the basis' last, and before that of the right sides, which is the last off it
+module _ (basis free : List ℕ) (columns : List Column) (are : AreColumns basis free columns) (m n v : ℕ) (count : length basis ≡ m + 1) (off : length free ≡ n + 1) (long : length columns ≡ v + 2) (value : slice_index basis m ≡ v) (right : slice_index free n ≡ v + 1) where
+  abbrev next : List ℕ
+  next = basis ++ (v + 1) ∷ []
+
+  abbrev later : List ℕ
+  later = set free n (v + 2)
+
+  abbrev then : List Column
+  then = set columns (v + 1) (Basic (m + 1)) ++ Free n ∷ []
+
+  set_long : length (set columns (v + 1) (Basic (m + 1))) ≡ v + 2
+  set_long = length-set columns (v + 1) (Basic (m + 1)) ∙ long
+
+  then_long : length then ≡ v + 3
+  then_long = omega (arith, length-append (set columns (v + 1) (Basic (m + 1))) (Free n ∷ []), set_long)
+
+  then_before : (j : ℕ) → j < v + 1 → column_at then j ≡ column_at columns j
+  then_before j h =
+      get_or_append_left (set columns (v + 1) (Basic (m + 1))) (Free n ∷ []) (Basic 0) j (omega (arith, h, set_long)) ∙ get_or-set_other columns (v + 1) j (Basic (m + 1)) (Basic 0) (λ e. omega (arith, e, h))
+
+  then_value : column_at then (v + 1) ≡ Basic (m + 1)
+  then_value =
+      get_or_append_left (set columns (v + 1) (Basic (m + 1))) (Free n ∷ []) (Basic 0) (v + 1) (omega (arith, set_long)) ∙ get_or-set_same columns (v + 1) (Basic (m + 1)) (Basic 0) (omega (arith, long))
+
+  then_right : column_at then (v + 2) ≡ Free n
+  then_right = get_or_push (set columns (v + 1) (Basic (m + 1))) (Free n) (Basic 0) (v + 2) set_long
+
+  next_before : (i : ℕ) → i < m + 1 → slice_index next i ≡ slice_index basis i
+  next_before i h = get_or_append_left basis ((v + 1) ∷ []) 0 i (omega (arith, h, count))
+
+  next_value : slice_index next (m + 1) ≡ v + 1
+  next_value = get_or_push basis (v + 1) 0 (m + 1) count
+
+  next_long : length next ≡ m + 2
+  next_long = omega (arith, length-append basis ((v + 1) ∷ []), count)
+
+  later_before : (k : ℕ) → k ≢ n → slice_index later k ≡ slice_index free k
+  later_before k a = get_or-set_other free n k (v + 2) 0 a
+
+  later_right : slice_index later n ≡ v + 2
+  later_right = get_or-set_same free n (v + 2) 0 (omega (arith, off))
+
+  later_long : length later ≡ n + 1
+  later_long = length-set free n (v + 2) ∙ off
+
+  basic_low : (i : ℕ) → i < m + 1 → slice_index basis i < v + 1
+  basic_low i h =
+      let below = (are.basic_at i (omega (arith, h, count))).0 in
+      let apart : slice_index basis i ≢ v + 1 = λ e. (partition_of are).apart i n (omega (arith, h, count)) (omega (arith, off)) (e ∙ sym right) in
+      omega (arith, below, apart, long)
+
+  free_low : (k : ℕ) → k < n → slice_index free k < v + 1
+  free_low k h =
+      let below = (are.free_at k (omega (arith, h, off))).0 in
+      let apart : slice_index free k ≢ v + 1 = λ e. (let s = (partition_of are).free_once k n (omega (arith, h, off)) (omega (arith, off)) (e ∙ sym right) in omega (arith, s, h)) in
+      omega (arith, below, apart, long)
+
+  before_held : (j : ℕ) (stands : Column) → j < v + 1 → Holds basis free j stands → Holds next later j stands
+  before_held j (Basic i) h held = (omega (arith, held.0, count, next_long), next_before i (omega (arith, held.0, count)) ∙ held.1)
+  before_held j (Free k) h held = (omega (arith, held.0, off, later_long), later_before k (λ e. (let s = ap (λ i. slice_index free i) e in omega (arith, s, right, held.1, h))) ∙ held.1)
+
+  pub slack_added : AreColumns (basis ++ (v + 1) ∷ []) (set free n (v + 2)) (set columns (v + 1) (Basic (m + 1)) ++ Free n ∷ [])
+  slack_added = record {
+    basic_at = λ i h. ⊎_elim (λ (a : i < m + 1). rw (next_before i a) (let b = basic_low i a in omega (arith, b, then_long), then_before (slice_index basis i) (basic_low i a) ∙ (are.basic_at i (omega (arith, a, count))).1)) (λ (a : m + 1 ≤ i). let e : i ≡ m + 1 = omega (arith, a, h, next_long) in rw (e, next_value) (omega (arith, then_long), then_value)) (cases_lt i (m + 1));
+    free_at = λ k h. ⊎_elim (λ (e : k ≡ n). rw (e, later_right) (omega (arith, then_long), then_right)) (λ (a : k ≢ n). let q : k < n = omega (arith, a, h, later_long) in rw (later_before k a) (let b = free_low k q in omega (arith, b, then_long), then_before (slice_index free k) (free_low k q) ∙ (are.free_at k (omega (arith, q, off))).1)) (cases_eq k n);
+    each = λ j h. ⊎_elim (λ (a : j < v + 1). rw (then_before j a) (before_held j (column_at columns j) a (are.each j (omega (arith, a, long))))) (λ (a : v + 1 ≤ j). ⊎_elim (λ (e : j ≡ v + 1). rw (e, then_value) (omega (arith, next_long), next_value)) (λ (b : j ≢ v + 1). let e : j ≡ v + 2 = omega (arith, a, b, h, then_long) in rw (e, then_right) (omega (arith, later_long), later_right)) (cases_eq j (v + 1))) (cases_lt j (v + 1));
   }

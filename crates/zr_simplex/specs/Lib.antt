@@ -8,3 +8,4 @@ pub mod Tableaus
 pub mod Dues
 pub mod Halts
 pub mod Binaries
+pub mod Appends

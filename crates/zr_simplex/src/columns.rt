@@ -1,9 +1,10 @@
-ghost use Rattle.std.specs.Prelude.{◌≡◌, ◌≢◌, ◌<◌, ◌≤◌, ℕ, ℤ, pos, List, length, slice_index, slice_set, MatchOption};
+ghost use Rattle.std.specs.Prelude.{◌≡◌, ◌≢◌, ◌<◌, ◌≤◌, ◌+◌, ◌-◌, ℕ, ℤ, pos, List, [], ◌∷◌, ◌++◌, length, slice_index, slice_set, MatchOption, OnOk};
 ghost use Rattle.zr_simplex.specs.Programs.{numbers};
-ghost use Rattle.zr_simplex.specs.Tableaus.{AreColumns, number_at};
+ghost use Rattle.zr_simplex.specs.Tableaus.{AreColumns, column_at, number_at};
 ghost use Rattle.zr_simplex.specs.declared.columns.Column.TheVariants.{Free as IsFree};
 
 use crate::pivot::RowAt;
+use std::alloc::AllocError;
 
 /// Where a column stands: in the basis as that of an equation, or off it at a place of each one.
 #[derive(Clone, Copy)]
@@ -66,4 +67,36 @@ pub(crate) fn exchange_columns(
     free[place] = leaving;
     columns[entering as usize] = Column::Basic(row as u32);
     columns[leaving as usize] = Column::Free(place as u32);
+}
+
+/// The slack column of a new equation comes in before the value's column: it takes the number of
+/// the value's, which takes that of the right sides, and theirs is new.
+pub(crate) fn add_slack(
+    basis: &mut Vec<u32>,
+    free: &mut [u32],
+    columns: &mut Vec<Column>,
+) -> Result<(), AllocError>
+    requires columns { AreColumns basis.old.items free.old columns.old.items }
+    requires value { (i : ℕ) → i + 1 ≡ length basis.old.items → slice_index basis.old.items i + 2 ≡ length columns.old.items }
+    requires right { (k : ℕ) → k + 1 ≡ length free.old → slice_index free.old k + 1 ≡ length columns.old.items }
+    requires some { 0 < length basis.old.items }
+    requires some_free { 0 < length free.old }
+    requires size { length columns.old.items < 4294967295 }
+    requires size_basis { length basis.old.items < 4294967296 }
+    requires size_free { length free.old < 4294967296 }
+    ensures len { length free.new ≡ length free.old }
+    ensures basis { OnOk result (basis.new.items ≡ basis.old.items ++ (length columns.old.items - 1) ∷ []) }
+    ensures free { OnOk result (free.new ≡ slice_set free.old (length free.old - 1) (length columns.old.items)) }
+    ensures columns { OnOk result (AreColumns basis.new.items free.new columns.new.items) }
+    ensures long { OnOk result (length columns.new.items ≡ length columns.old.items + 1) }
+    ensures same { OnOk result ((j : ℕ) → j + 1 < length columns.old.items → column_at columns.new.items j ≡ column_at columns.old.items j) }
+{
+    let right = columns.len() - 1;
+    let place = free.len() - 1;
+    let row = basis.len() as u32;
+    basis.push(right as u32)?;
+    free[place] = right as u32 + 1;
+    columns[right] = Column::Basic(row);
+    columns.push(Column::Free(place as u32))?;
+    Ok(())
 }

@@ -1,6 +1,7 @@
 //! Linear programs by the exact simplex method.
 #![tactic(auto)]
 
+mod append;
 mod basic;
 mod binary;
 mod choose;

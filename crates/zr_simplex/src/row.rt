@@ -46,7 +46,7 @@ pub(crate) fn coprime_parts(p: i128, a: i128) -> (i128, i128)
 }
 
 /// `by * own - less * other`, without a step where nothing changes.
-fn difference(by: i128, own: i128, less: i128, other: i128) -> Result<i128, Wide>
+pub(crate) fn difference(by: i128, own: i128, less: i128, other: i128) -> Result<i128, Wide>
     requires { IsNarrow own }
     ensures { result ≡ cross_of (by, own) (less, other) }
 {
@@ -57,7 +57,7 @@ fn difference(by: i128, own: i128, less: i128, other: i128) -> Result<i128, Wide
 }
 
 /// A divisor's greatest common divisor with one number more; 1 stays as it is.
-fn with_number(common: u128, number: i128) -> u128
+pub(crate) fn with_number(common: u128, number: i128) -> u128
     ensures { IsGcd common (unsigned_abs number) result }
 {
     if common == 1 {

@@ -14,7 +14,7 @@ use crate::tableau::Tableau;
 use std::alloc::{AllocError, Global};
 
 /// Writes a row's coefficients into places that are zero.
-fn write_row(places: &mut [i128], coef: &[(u32, i128)], columns: usize)
+pub(crate) fn write_row(places: &mut [i128], coef: &[(u32, i128)], columns: usize)
     requires zeros { All (λ z. z ≡ pos 0) places.old }
     requires coef { Ascends 0 columns coef.now }
     requires columns { columns ≤ length places.old }

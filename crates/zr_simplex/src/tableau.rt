@@ -1,11 +1,14 @@
-ghost use Rattle.std.specs.Prelude.{◌≡◌, ◌≢◌, ◌<◌, ◌+◌, ◌*◌, ℕ, pos, length, slice_set, MatchOption, IfErr, OnOk, OnErr};
+ghost use Rattle.std.specs.Prelude.{◌≡◌, ◌≢◌, ◌<◌, ◌+◌, ◌*◌, ℕ, pos, ◌<ℤ◌, length, slice_set, MatchOption, IfOk, IfErr, OnOk, OnErr};
 ghost use Rattle.std.specs.List.{All};
 ghost use Rattle.zr_base.specs.Steps.{IsNarrow};
 ghost use Rattle.zr_simplex.specs.StuckSteps.{IsWidePivot};
 ghost use Rattle.zr_simplex.specs.RowSteps.{IsPivot, IsSolved};
+ghost use Rattle.zr_simplex.specs.Programs.{numbers};
 
-use crate::columns::{Column, exchange_columns, made_column, place_of};
+use crate::append::add_equation;
+use crate::columns::{Column, add_slack, exchange_columns, made_column, place_of};
 use crate::pivot::{Place, exchange};
+use std::alloc::AllocError;
 use std::marker::Model;
 
 /// A basis, and for each of its columns an equation.
@@ -36,6 +39,7 @@ impl Model for Tableau {
 
 impl Tableau {
     ghost use Rattle.zr_simplex.specs.Tableaus.{AreColumns, IsPartition, basis_of, form_of, free_of};
+    ghost use Rattle.zr_simplex.specs.Appends.{IsWithRow};
 
     /// The tableau of a basis, of the columns off it, and of its condensed equations.
     pub(crate) fn new(
@@ -160,5 +164,38 @@ impl Tableau {
                 wide: e.at.wide,
             }),
         }
+    }
+
+    /// The tableau with one equation more before the value's, which is the last one: its numbers at
+    /// this tableau's columns, and then that at its own, which is new, stands before the value's, and
+    /// comes into the basis.
+    pub(crate) fn with_row(self, made: &[i128]) -> Result<Tableau, AllocError>
+        requires value { (i : ℕ) → i + 1 ≡ length self.basis → basis_of self i + 2 ≡ self.width }
+        requires right { (k : ℕ) → k + 1 ≡ length self.free → free_of self k + 1 ≡ self.width }
+        requires some { 0 < length self.basis }
+        requires some_free { 0 < length self.free }
+        requires size { self.width < 4294967295 }
+        requires size_basis { length self.basis < 4294967296 }
+        requires size_free { length self.free < 4294967296 }
+        requires len { length made.now ≡ self.width + 1 }
+        requires narrow { All IsNarrow made.now }
+        requires above { pos 0 <ℤ numbers made.now self.width }
+        requires cleared { (i : ℕ) → i < length self.basis → numbers made.now (basis_of self i) ≡ pos 0 }
+        ensures { IfOk result (λ t. (m n v : ℕ) → length self.basis ≡ m + 1 → length self.free ≡ n + 1 → self.width ≡ v + 2 → IsWithRow m n v self t (numbers made.now)) }
+    {
+        let Tableau {
+            mut basis,
+            mut free,
+            mut columns,
+            mut numbers,
+        } = self;
+        add_equation(&mut numbers, basis.len() - 1, made, &free)?;
+        add_slack(&mut basis, &mut free, &mut columns)?;
+        Ok(Tableau {
+            basis,
+            free,
+            columns,
+            numbers,
+        })
     }
 }
