@@ -8,6 +8,7 @@ mod Turn
 mod Stands
 mod Held
 mod Enlarged
+mod Pushed
 mod Appended
 mod Added
 mod Appending

@@ -9,3 +9,4 @@ pub mod Dues
 pub mod Halts
 pub mod Binaries
 pub mod Appends
+pub mod Resumes

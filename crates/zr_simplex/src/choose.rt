@@ -86,7 +86,7 @@ fn improving_due(lp: &Lp, tableau: &Tableau, start: &[u32]) -> Due
 }
 
 /// The first row whose right side is below zero.
-fn row_to_mend(lp: &Lp, tableau: &Tableau) -> Option<usize>
+pub(crate) fn row_to_mend(lp: &Lp, tableau: &Tableau) -> Option<usize>
     requires lp { IsLp lp.now }
     requires kept { IsTableau (program_of lp.now) tableau.now }
     ensures { MatchOption result (IsFeasibleForm (program_of lp.now) (form_of tableau.now)) (λ i. (i < length lp.now.rows.items) × (form_of tableau.now i (right_column (program_of lp.now)) <ℤ pos 0)) }
@@ -175,7 +175,7 @@ fn is_lower_ray(lp: &Lp, tableau: &Tableau, row: usize, column: usize, last: usi
 
 /// The order of what row `at` has at column `last` and at `column`, each over the number of `row`
 /// there, negated.
-fn compare_rays(tableau: &Tableau, row: usize, column: usize, last: usize, at: usize) -> Ordering
+pub(crate) fn compare_rays(tableau: &Tableau, row: usize, column: usize, last: usize, at: usize) -> Ordering
     requires row { row < length tableau.now.basis }
     requires at { at < length tableau.now.basis }
     requires column { column < tableau.now.width }
@@ -193,7 +193,7 @@ fn compare_rays(tableau: &Tableau, row: usize, column: usize, last: usize, at: u
 }
 
 /// The first column, before the value's, along which the value falls.
-fn column_to_raise(lp: &Lp, tableau: &Tableau) -> Option<usize>
+pub(crate) fn column_to_raise(lp: &Lp, tableau: &Tableau) -> Option<usize>
     requires lp { IsLp lp.now }
     requires kept { IsTableau (program_of lp.now) tableau.now }
     ensures { MatchOption result ((j : ℕ) → j < value_column (program_of lp.now) → form_of tableau.now (length lp.now.rows.items) j ≤ℤ pos 0) (λ j. (j < value_column (program_of lp.now)) × (pos 0 <ℤ form_of tableau.now (length lp.now.rows.items) j)) }

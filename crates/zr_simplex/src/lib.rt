@@ -9,6 +9,7 @@ mod columns;
 mod listed;
 mod pivot;
 mod program;
+mod resume;
 mod row;
 mod solution;
 mod solve;
@@ -18,5 +19,6 @@ mod tableau;
 mod tests;
 
 pub use program::{Lp, LpAnswer, Stop};
+pub use resume::OpenLp;
 pub use solve::solve_lp;
 pub use zr_lin::{Step, Stuck};

@@ -53,7 +53,7 @@ fn multipliers(
 }
 
 /// The answer at a basis where no pivot is due, or what stops it.
-fn answer(alloc: Global, lp: &Lp, tableau: &Tableau, due: Due) -> Result<LpAnswer, Miss>
+pub(crate) fn answer(alloc: Global, lp: &Lp, tableau: &Tableau, due: Due) -> Result<LpAnswer, Miss>
     requires lp { IsLp lp.now }
     requires kept { IsTableau (program_of lp.now) tableau.now }
     requires end { IsEnd (program_of lp.now) (form_of tableau.now) due }
@@ -111,7 +111,7 @@ fn turn(lp: &Lp, tableau: &mut Tableau, row: usize, column: usize) -> Result<(),
 }
 
 /// One pivot, which is counted when it was made.
-fn counted_turn(
+pub(crate) fn counted_turn(
     lp: &Lp,
     tableau: &mut Tableau,
     purse: &mut Purse,
@@ -179,11 +179,12 @@ fn run(alloc: Global, lp: &Lp, tableau: &mut Tableau, purse: &mut Purse) -> Resu
 }
 
 /// The answer to which pivots by the rules lead, or what stops it.
-fn solve(alloc: Global, lp: &Lp, tableau: &mut Tableau, purse: &mut Purse) -> Result<LpAnswer, Miss>
+pub(crate) fn solve(alloc: Global, lp: &Lp, tableau: &mut Tableau, purse: &mut Purse) -> Result<LpAnswer, Miss>
     requires lp { IsLp lp.now }
     requires kept { IsTableau (program_of lp.now) tableau.old }
     requires slacks { (i : ℕ) → i ≤ length lp.now.rows.items → basis_of tableau.old i ≡ lp.now.columns + i }
     ensures answer { IfOk result (IsAnswer lp.now) }
+    ensures kept { OnOk result (IsTableau (program_of lp.now) tableau.new) }
     ensures basic { IfOk result (IsReachedAnswer (program_of lp.now) purse.old purse.new) }
     ensures count { length tableau.new.basis ≡ length lp.now.rows.items + 1 }
     ensures few { CountsFew (program_of lp.now) purse.old purse.new }

@@ -1,6 +1,7 @@
 ghost use Rattle.zr_base.specs.Steps.{IsNarrow};
 
 mod made;
+mod resumed;
 
 use crate::program::{Lp, LpAnswer, Stop};
 use crate::solve::solve_lp;

@@ -1,0 +1,4 @@
+use Rattle.zr_simplex.proofs.resume.with_last_row.Goals as goal
+
+pub append-requires-clause-kept : goal.append-requires-clause-kept
+append-requires-clause-kept c rows e = rw c.in_ok-tableau.was at (c.requires.kept rows e)
