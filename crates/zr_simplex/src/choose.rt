@@ -175,7 +175,13 @@ fn is_lower_ray(lp: &Lp, tableau: &Tableau, row: usize, column: usize, last: usi
 
 /// The order of what row `at` has at column `last` and at `column`, each over the number of `row`
 /// there, negated.
-pub(crate) fn compare_rays(tableau: &Tableau, row: usize, column: usize, last: usize, at: usize) -> Ordering
+pub(crate) fn compare_rays(
+    tableau: &Tableau,
+    row: usize,
+    column: usize,
+    last: usize,
+    at: usize,
+) -> Ordering
     requires row { row < length tableau.now.basis }
     requires at { at < length tableau.now.basis }
     requires column { column < tableau.now.width }

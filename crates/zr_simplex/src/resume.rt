@@ -111,11 +111,7 @@ impl OpenLp {
 }
 
 /// Solves a program from the basis of the slacks, and gives the tableau at the end too.
-fn solve_afresh(
-    alloc: Global,
-    lp: &Lp,
-    purse: &mut Purse,
-) -> Result<(Tableau, LpAnswer), Stop>
+fn solve_afresh(alloc: Global, lp: &Lp, purse: &mut Purse) -> Result<(Tableau, LpAnswer), Stop>
     requires lp { IsLp lp.now }
     ensures kept { IfOk result (λ found. IsTableau (program_of lp.now) found.0) }
     ensures answer { IfOk result (λ found. IsAnswer lp.now found.1) }
@@ -221,13 +217,7 @@ fn column_by_value(lp: &Lp, tableau: &Tableau, row: usize) -> Option<usize>
 }
 
 /// The column by which the value rises less, in place of a row's.
-fn sooner(
-    tableau: &Tableau,
-    row: usize,
-    value: usize,
-    best: Option<usize>,
-    column: usize,
-) -> usize
+fn sooner(tableau: &Tableau, row: usize, value: usize, best: Option<usize>, column: usize) -> usize
     requires row { row < length tableau.now.basis }
     requires value { value < length tableau.now.basis }
     requires column { column < tableau.now.width }

@@ -179,7 +179,12 @@ fn run(alloc: Global, lp: &Lp, tableau: &mut Tableau, purse: &mut Purse) -> Resu
 }
 
 /// The answer to which pivots by the rules lead, or what stops it.
-pub(crate) fn solve(alloc: Global, lp: &Lp, tableau: &mut Tableau, purse: &mut Purse) -> Result<LpAnswer, Miss>
+pub(crate) fn solve(
+    alloc: Global,
+    lp: &Lp,
+    tableau: &mut Tableau,
+    purse: &mut Purse,
+) -> Result<LpAnswer, Miss>
     requires lp { IsLp lp.now }
     requires kept { IsTableau (program_of lp.now) tableau.old }
     requires slacks { (i : ℕ) → i ≤ length lp.now.rows.items → basis_of tableau.old i ≡ lp.now.columns + i }
