@@ -1,6 +1,5 @@
 -- The basic form after an equation has come in before the value's.
-use Rattle.std.proofs.Common.{◌≡◌, ◌≢◌, ℕ, ◌+◌, ◌<◌, ◌≤◌, arith, refl, sym, ap, ◌∙◌, ⊎_elim, ℤ, pos, ◌*ℤ◌, ◌<ℤ◌, List, [], ◌∷◌, ◌++◌, length, set, slice_index}
-use Rattle.std.proofs.lemmas.Bool.{cases_eq}
+use Rattle.std.proofs.Common.{◌≡◌, ◌≢◌, ℕ, ◌+◌, ◌<◌, arith, refl, sym, ap, ◌∙◌, ℤ, pos, ◌*ℤ◌, ◌<ℤ◌, List, length, slice_index}
 use Rattle.std.proofs.lemmas.Int.{ints}
 use Rattle.zr_basis.specs.BasicForms.{IsReduced}
 use Rattle.zr_simplex.specs.declared.columns.Column.{Column}

@@ -1,5 +1,5 @@
 -- A tableau with a row appended is the tableau of the program with that row.
-use Rattle.std.proofs.Common.{◌≡◌, ◌≢◌, ℕ, suc, ◌+◌, ◌<◌, ◌≤◌, arith, sym, ap, subst, ◌∙◌, ℤ, pos, ◌+ℤ◌, ◌*ℤ◌, [], ◌∷◌, length, set, slice_index, length-append, length-set, get_or-set_same}
+use Rattle.std.proofs.Common.{◌≡◌, ℕ, suc, ◌+◌, ◌<◌, ◌≤◌, arith, sym, ap, subst, ◌∙◌, ℤ, pos, ◌+ℤ◌, ◌*ℤ◌, [], ◌∷◌, length, slice_index, length-append, length-set, get_or-set_same}
 use Rattle.std.proofs.lemmas.Int.{ints}
 use Rattle.std.proofs.lemmas.List.{get_or_append_left, get_or_push}
 use Rattle.zr_base.specs.Sums.{sum_to}
@@ -8,7 +8,7 @@ use Rattle.zr_basis.specs.Programs.{Program}
 use Rattle.zr_basis.specs.BasicForms.{right_column, CombinesEquations}
 use Rattle.zr_simplex.specs.Dues.{HoldsAt, IsTableau}
 use Rattle.zr_simplex.specs.RowSteps.{IsQuotient}
-use Rattle.zr_simplex.specs.Tableaus.{Equations, basis_of, form_of, free_of}
+use Rattle.zr_simplex.specs.Tableaus.{Equations, basis_of, form_of}
 use Rattle.zr_simplex.specs.Appends.{IsExpressed, IsWithRow, extended, first_rows}
 use Rattle.zr_simplex.proofs.Divide.{zero_if}
 use Rattle.zr_simplex.proofs.Enlarged.{Extends, enlarged, enlarged_complete, extends}

@@ -1,10 +1,11 @@
 -- Places are filled with an equation's numbers.
-use Rattle.std.proofs.Common.{◌≡◌, ◌≢◌, ℕ, ◌+◌, ◌<◌, ◌≤◌, arith, ◌∙◌, ℤ, pos, List, length, get_or, take, set, add-one, ⊎_elim, get_or-set_same, get_or-set_other}
+use Rattle.std.proofs.Common.{◌≡◌, ◌≢◌, ℕ, ◌+◌, ◌<◌, ◌≤◌, arith, ◌∙◌, ℤ, pos, List, length, get_or, take, set, add-one, ⊎_elim, get_or-set_same, get_or-set_other, length-set}
 use Rattle.std.proofs.lemmas.Bool.{cases_eq}
 use Rattle.zr_base.specs.Steps.{IsNarrow}
 use Rattle.zr_base.specs.Terms.{Ascends, coef_at}
 use Rattle.zr_base.proofs.TermLaws.{entry_from, coef_at_more_here, coef_at_more_else}
 use Rattle.zr_simplex.specs.Programs.{numbers}
+use Rattle.zr_simplex.specs.RowSteps.{IsStart}
 
 module _ (places : List ℤ) (coef : List (ℕ × ℤ)) (columns i : ℕ) (ascends : Ascends 0 columns coef) (below : i < length coef) (room : columns ≤ length places) where
   pub entry_inside : (get_or coef i (0, pos 0)).0 < length places

@@ -1,14 +1,11 @@
 -- A program with a row pushed: what it keeps of the program without it.
-use Rattle.std.proofs.Common.{rules, ◌≡◌, ℕ, ◌+◌, ◌<◌, arith, sym, ap, ◌∙◌, ℤ, ◌-ℤ◌, ◌*ℤ◌, false, List, [], ◌∷◌, ◌++◌, map, length, Option, Some, None, MatchOption}
+use Rattle.std.proofs.Common.{rules, ◌≡◌, ℕ, ◌+◌, ◌<◌, sym, ap, ◌∙◌, ℤ, ◌-ℤ◌, ◌*ℤ◌, List, [], ◌∷◌, ◌++◌, map, length, Option, Some, None, MatchOption}
 use Rattle.std.proofs.lemmas.List.{get_or_append_left, length-map, map-append}
 use Rattle.std.proofs.lemmas.List.Elements.{All-append}
 use Rattle.std.specs.List.{All}
-use Rattle.zr_base.specs.Sums.{sum_to}
-use Rattle.zr_base.specs.Steps.{IsNarrow}
 use Rattle.zr_base.proofs.Dense.{sum_to_same}
 use Rattle.zr_lin.specs.declared.system.Ineq.{Ineq}
-use Rattle.zr_lin.specs.DenseRows.{DenseRow}
-use Rattle.zr_lin.specs.Ineqs.{IneqOf, IsIneq, dense, ineq_of, row_at}
+use Rattle.zr_lin.specs.Ineqs.{IneqOf, dense, ineq_of, row_at}
 use Rattle.zr_basis.specs.Programs.{Program}
 use Rattle.zr_basis.specs.BasicForms.{value_column, CombinesEquations}
 use Rattle.zr_simplex.specs.Tableaus.{Equations}

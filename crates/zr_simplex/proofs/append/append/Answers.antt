@@ -1,4 +1,4 @@
-use Rattle.std.proofs.Common.{rules, ◌≡◌, ◌≢◌, suc, ◌+◌, ◌-◌, ◌<◌, ◌≤◌, arith, ap, ◌∙◌, length, pos, ◌<ℤ◌, ℕ, ⊎_elim}
+use Rattle.std.proofs.Common.{rules, ◌≡◌, ◌≢◌, suc, ◌+◌, ◌-◌, arith, ap, ◌∙◌, length, ℕ, ⊎_elim}
 use Rattle.std.proofs.lemmas.Bool.{cases_eq}
 use Rattle.zr_simplex.specs.Programs.{numbers, program_of}
 use Rattle.zr_simplex.specs.Tableaus.{basis_of, form_of, free_of}

@@ -1,4 +1,4 @@
-use Rattle.std.proofs.Common.{◌≡◌, ◌≢◌, ℕ, ◌+◌, ◌*◌, ◌-◌, ◌<◌, ◌≤◌, arith, refl, ◌∙◌, length}
+use Rattle.std.proofs.Common.{◌≡◌, ℕ, ◌+◌, ◌*◌, ◌-◌, ◌≤◌, arith, ◌∙◌, length}
 use Rattle.zr_simplex.specs.Tableaus.{row_in}
 use Rattle.zr_simplex.proofs.Grids.{row_end, row_in-here, row_in-length, row_in-other}
 use Rattle.zr_simplex.proofs.append.replace_row.Goals as goal

@@ -1,4 +1,4 @@
-use Rattle.std.proofs.Common.{rules, ◌≡◌, ◌+◌, ◌-◌, ◌<◌, ◌≤◌, arith, sym, ap, ◌∙◌, ℤ, pos, length, get_or, get_or-set_same, FitsSigned, Ok, ◌-ℤ◌, ◌*ℤ◌}
+use Rattle.std.proofs.Common.{rules, ◌≡◌, ◌-◌, ◌<◌, ◌≤◌, arith, sym, ap, ◌∙◌, ℤ, pos, length, get_or, get_or-set_same, FitsSigned, Ok, ◌-ℤ◌, ◌*ℤ◌}
 use Rattle.std.proofs.lemmas.Int.{ints, to_z-of_z}
 use Rattle.std.specs.Int.{w128}
 use Rattle.zr_base.specs.Steps.{cross_of}

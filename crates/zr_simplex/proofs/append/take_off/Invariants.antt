@@ -1,4 +1,4 @@
-use Rattle.std.proofs.Common.{◌≡◌, ◌<◌, ◌≤◌, ◌+◌, ℕ, length, ◌-ℤ◌, ◌*ℤ◌}
+use Rattle.std.proofs.Common.{◌≡◌, ◌<◌, ◌≤◌, ℕ, ◌-ℤ◌, ◌*ℤ◌}
 use Rattle.std.specs.List.{All}
 use Rattle.zr_base.specs.Steps.{IsNarrow}
 use Rattle.zr_simplex.specs.Programs.{numbers}

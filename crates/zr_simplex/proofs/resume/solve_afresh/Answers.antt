@@ -1,4 +1,4 @@
-use Rattle.std.proofs.Common.{rules, ◌≡◌, ◌+◌, ap, sym, ◌∙◌, subst, List, length, slice_index}
+use Rattle.std.proofs.Common.{◌≡◌, ◌+◌, ap, sym, ◌∙◌, subst, length, slice_index}
 use Rattle.zr_basis.specs.Runs.{end_of}
 use Rattle.zr_simplex.specs.Programs.{program_of}
 use Rattle.zr_simplex.specs.Causes.{IsStuckAfter}

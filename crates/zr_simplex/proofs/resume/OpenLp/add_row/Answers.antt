@@ -1,6 +1,6 @@
-use Rattle.std.proofs.Common.{rules, ◌≡◌, ℕ, ◌+◌, ◌<◌, arith, sym, ap, ◌∙◌, [], ◌∷◌, ◌++◌, map, length, length-append, false}
+use Rattle.std.proofs.Common.{◌≡◌, ℕ, ◌+◌, ◌<◌, arith, ap, ◌∙◌, [], ◌∷◌, ◌++◌, map, length, length-append, false}
 use Rattle.zr_lin.specs.DenseRows.{DenseRow}
-use Rattle.zr_lin.specs.Ineqs.{IneqOf, IsIneq, ineq_of, row_at}
+use Rattle.zr_lin.specs.Ineqs.{IsIneq, ineq_of, row_at}
 use Rattle.zr_simplex.specs.Programs.{program_of}
 use Rattle.zr_simplex.proofs.Pushed.{one_more, row_before, tableau_if}
 use Rattle.zr_simplex.proofs.resume.OpenLp.add_row.Goals as goal
