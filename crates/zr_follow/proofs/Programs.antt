@@ -204,6 +204,7 @@ module _ (f : FollowerOf) (columns : ℕ) (form : IsFollowerForm columns f) (x :
   -- least fractions are an optimal answer
   pub optimal_of_least : All (RowHolds x) f.rows → IsLeast here (own f (num_of x)) x.den → IsOptimal f x
   optimal_of_least rows least = record {
+    point = positive;
     rows = rows;
     least = λ y is. at_most ((x.den *ℤ x.den) *ℤ y.den) (follower_cost f x) (follower_cost f y) (along here here.aim (own f (num_of x)) *ℤ y.den) (along here here.aim (own f (num_of y)) *ℤ x.den) (mul_positive (x.den *ℤ x.den) y.den (mul_positive x.den x.den positive positive) is.point) (worth-wider (x.den *ℤ x.den) y.den (follower_cost f x) (along here here.aim (own f (num_of x))) cost_here) (subst (λ e. Worth e (follower_cost f y) (along here here.aim (own f (num_of y)) *ℤ x.den)) (turn x.den y.den) (worth-wider (x.den *ℤ y.den) x.den (follower_cost f y) (along here here.aim (own f (num_of y))) (worth_cost f columns form (num_of x) x.den y is.point (λ v o. (is.others v o).cross)))) (least (own f (num_of y)) y.den (allowed_there y is));
   }

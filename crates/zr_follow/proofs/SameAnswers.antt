@@ -64,6 +64,7 @@ module _ (x y : PointOf) (same : IsSamePoint x y) where
 
     pub optimal_same : IsOptimal f x → IsOptimal f y
     optimal_same optimal = record {
+      point = y_positive;
       rows = λ k d h. row_holds_same x y (get_or f.rows k d) same (optimal.rows k d h);
       least = λ w is. let w_cost = worth_cost f columns form (num_of w) w.den w is.point (λ v o. refl) in order_same (follower_cost f x) (follower_cost f w) (follower_cost f y) (follower_cost f w) (is_same (follower_cost f x) (follower_cost f y) worth_x.below worth_y.below cost_cross) (same_refl (follower_cost f w) w_cost.below) (optimal.least w (choice_same w is));
     }

@@ -50,11 +50,11 @@ pub record IsPairForm (columns : ℕ) (pair : PairOf) : Type 0 where
   pub coef : AreTerms columns pair.coef
   pub add : IsNumber pair.add
 
--- variable v has the lower bound 0
+-- where there is a variable v, its lower bound is 0
 abbrev pub IsFromZero : List VarOf → ℕ → Type 0
 IsFromZero vars v = (var : VarOf) → slice_get vars v ≡ Some var → var.low ≡ Some (pos 0)
 
--- the game has player k, with a variable v
+-- where the game has a player k, this player has a variable v
 abbrev pub HasVar : GameOf → ℕ → ℕ → Type 0
 HasVar game k v = (player : PlayerOf) → IsPlayer game k player → v < length player.vars
 

@@ -62,7 +62,7 @@ at_two = record {
 }
   where
     answers : All (λ f. IsOptimal f (chosen (pos 2) (pos 2))) (greatest ∷ [])
-    answers zero d h = record { rows = row_at_two; least = least_at_two }
+    answers zero d h = record { point = omega (arith, ints); rows = row_at_two; least = least_at_two }
     answers (suc k) d h = absurd (omega arith)
 
 alike : (z : ℤ) → IsSame (whole z) (whole z)

@@ -29,8 +29,10 @@ pub record IsChoice (follower : FollowerOf) (x y : PointOf) : Type 0 where
   pub low : (v : ℕ) → IsOwn follower v → (pos 0) ≤ℤ num_of y v
   pub rows : All (RowHolds y) follower.rows
 
--- the follower's rows hold, and no choice that it has costs it less
+-- at a point, which has a denominator above zero, the follower's rows hold, and no choice that it
+-- has costs it less
 pub record IsOptimal (follower : FollowerOf) (x : PointOf) : Type 0 where
+  pub point : (pos 0) <ℤ x.den
   pub rows : All (RowHolds x) follower.rows
   pub least : (y : PointOf) → IsChoice follower x y
       → IsAtMost (follower_cost follower x) (follower_cost follower y)
