@@ -15,7 +15,7 @@ use Rattle.zr_game.specs.Profiles.{Profile, Strategy, deviation, expected_cost, 
 use Rattle.zr_game.specs.declared.player.CrossTerm.{CrossTerm}
 use Rattle.zr_game.specs.declared.player.Other.{Other}
 use Rattle.zr_follow.proofs.Expanded.{get_within, terms_below}
-use Rattle.zr_follow.specs.Expansion.{IsExpanded}
+use Rattle.zr_follow.proofs.Relations.{IsExpanded}
 use Rattle.zr_follow.specs.BaseParts.{base_part, base_points, base_profile, base_strategy}
 use Rattle.zr_source.specs.SourceForms.{IsSource}
 use Rattle.zr_source.specs.Sources.{IsLeader, LeaderOf, SourceOf, bases}

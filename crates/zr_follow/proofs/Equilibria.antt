@@ -21,7 +21,7 @@ use Rattle.zr_game.specs.declared.kind.Kind.TheVariants.{Pure, Mixed}
 use Rattle.zr_follow.proofs.BaseProfiles.{base_is, deviation_base, expected_base, length-base_profile, strategy_base}
 use Rattle.zr_follow.proofs.Expanded.{expanded_feasible, get_within, leader_feasible}
 use Rattle.zr_follow.proofs.SameProfiles.{SameParts, SameProfile, expected_same, same_deviation, same_profile_refl}
-use Rattle.zr_follow.specs.Expansion.{IsExpansion}
+use Rattle.zr_follow.proofs.Relations.{IsExpansion}
 use Rattle.zr_source.specs.Optimal.{IsLeaderFeasible}
 use Rattle.zr_source.specs.SourceEquilibria.{HasNoSourceEquilibrium, IsLeaderStrategy, IsSourceEquilibrium, IsSourceProfile}
 use Rattle.zr_follow.specs.BaseParts.{base_of_part, base_part, base_profile, base_strategy}

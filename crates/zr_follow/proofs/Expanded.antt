@@ -23,7 +23,8 @@ use Rattle.zr_game.specs.Players.{GameOf, PairOf, PlayerOf, VarOf}
 use Rattle.zr_follow.proofs.Answered.{AllAnswered, Answered, Collected, IsOwnLow, all_same, collected, optimal_of_answered, slack_row, slack_var}
 use Rattle.zr_follow.proofs.Pairs.{All_back, All_front, all_of_pairs, at_columns, pairs_of_all}
 use Rattle.zr_follow.proofs.Programs.{none, own, row_at}
-use Rattle.zr_follow.specs.Expansion.{IsExpanded, IsMultiplier, all_pairs, cross_terms, multipliers}
+use Rattle.zr_follow.specs.Expansion.{all_pairs, cross_terms, multipliers}
+use Rattle.zr_follow.proofs.Relations.{IsExpanded, IsMultiplier}
 use Rattle.zr_source.specs.Optimal.{IsLeaderFeasible, IsOptimal}
 use Rattle.zr_follow.specs.BaseParts.{base_part}
 use Rattle.zr_source.specs.SourceForms.{AreFree, IsFollowerCross, IsFollowerForm, IsLeaderForm}

@@ -21,7 +21,8 @@ use Rattle.zr_game.proofs.Items.{one}
 use Rattle.zr_follow.proofs.BaseProfiles.{base_is}
 use Rattle.zr_follow.proofs.CountLaws.{length-all_pairs}
 use Rattle.zr_follow.proofs.Expanded.{get_within, slice_get_back, slice_get_front}
-use Rattle.zr_follow.specs.Expansion.{IsExpanded, IsExpansion, IsMultiplier, IsWithinCounts, all_pairs, cross_terms, follower_pairs, multipliers, row_pairs, row_terms, var_pairs}
+use Rattle.zr_follow.specs.Expansion.{IsWithinCounts, all_pairs, cross_terms, follower_pairs, multipliers, row_pairs, row_terms, var_pairs}
+use Rattle.zr_follow.proofs.Relations.{IsExpanded, IsExpansion, IsMultiplier}
 use Rattle.zr_source.specs.SourceForms.{AreFree, IsFollowerCross, IsFollowerForm, IsSource, follower_cross_order}
 use Rattle.zr_source.specs.Sources.{FollowerOf, IsLeader, IsOwn, LeaderOf, SourceOf, bases}
 

@@ -3,6 +3,7 @@ pub mod Multipliers
 pub mod Programs
 pub mod Answered
 pub mod Pairs
+pub mod Relations
 pub mod Expanded
 pub mod SameAnswers
 pub mod SameProfiles

@@ -15,7 +15,7 @@ use Rattle.zr_game.specs.Players.{GameOf, PlayerOf}
 use Rattle.zr_follow.proofs.Expanded.{expanded_feasible, leader_feasible}
 use Rattle.zr_follow.proofs.Programs.{aim_of, own, program_of, worth_cost}
 use Rattle.zr_follow.proofs.Sums.{sum_times}
-use Rattle.zr_follow.specs.Expansion.{IsExpanded}
+use Rattle.zr_follow.proofs.Relations.{IsExpanded}
 use Rattle.zr_source.specs.Optimal.{IsChoice, IsLeaderFeasible, IsOptimal, follower_cost}
 use Rattle.zr_follow.specs.Programs.{along}
 use Rattle.zr_follow.specs.BaseParts.{base_part}

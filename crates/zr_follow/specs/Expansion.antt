@@ -1,5 +1,5 @@
 -- Leaders as players: each follower's optimality replaced by multipliers of its rows and by pairs.
-use Rattle.std.specs.Prelude.{◌≡◌, ℕ, zero, suc, ◌+◌, ◌==◌, ◌<◌, ◌≤◌, pos, neg_ℤ, false, Some, None, if◌then◌else◌, List, [], ◌∷◌, ◌++◌, map, length}
+use Rattle.std.specs.Prelude.{◌≡◌, ℕ, zero, suc, ◌+◌, ◌==◌, ◌<◌, ◌≤◌, pos, neg_ℤ, false, Some, None, if◌then◌else◌, List, [], ◌∷◌, ◌++◌, map, length, replicate}
 use Rattle.std.specs.List.{All, filter}
 use Rattle.std.specs.Ordering.{int_eq}
 use Rattle.zr_base.specs.Terms.{Terms, coef_at}
@@ -61,32 +61,26 @@ abbrev pub multipliers : List FollowerOf → ℕ
 multipliers [] = 0
 multipliers (follower ∷ followers) = length follower.rows + multipliers followers
 
--- a multiplier is continuous, at least 0, and has no upper bound
-abbrev pub IsMultiplier : VarOf → Type 0
-IsMultiplier var = (var.whole ≡ false) × (var.low ≡ Some (pos 0)) × (var.up ≡ None)
-
 -- a multiplier without a name
 abbrev pub unnamed : VarOf
 unnamed = record { name = []; whole = false; low = Some (pos 0); up = None }
 
--- player is the leader with its multipliers after its variables and its followers' pairs after its
--- own. The names of multipliers are free
-pub record IsExpanded (leader : LeaderOf) (player : PlayerOf) : Type 0 where
-  pub name : player.name ≡ leader.base.name
-  pub vars : (more : List VarOf) × (player.vars ≡ leader.base.vars ++ more)
-      × (length more ≡ multipliers leader.followers) × All IsMultiplier more
-  pub rows : player.rows ≡ leader.base.rows
-  pub pairs : player.pairs
-      ≡ leader.base.pairs ++ all_pairs (length leader.base.vars) leader.followers
-  pub cost : player.cost ≡ leader.base.cost
-  pub cross : player.cross ≡ leader.base.cross
-  pub others : player.others ≡ leader.base.others
+-- the leader as a player: its multipliers stand after its variables, and its followers' pairs after
+-- its own
+abbrev pub expanded : LeaderOf → PlayerOf
+expanded leader = record {
+  name = leader.base.name;
+  vars = leader.base.vars ++ replicate (multipliers leader.followers) unnamed;
+  rows = leader.base.rows;
+  pairs = leader.base.pairs ++ all_pairs (length leader.base.vars) leader.followers;
+  cost = leader.base.cost;
+  cross = leader.base.cross;
+  others = leader.base.others;
+}
 
--- each player is the leader of its number, expanded
-pub record IsExpansion (source : SourceOf) (game : GameOf) : Type 0 where
-  pub len : length game ≡ length source
-  pub players : (i : ℕ) (leader : LeaderOf) (player : PlayerOf) → IsLeader source i leader
-      → IsPlayer game i player → IsExpanded leader player
+-- each leader as a player
+abbrev pub expansion : SourceOf → GameOf
+expansion source = map expanded source
 
 -- a pair for each variable and each row
 abbrev pub added_pairs : List FollowerOf → ℕ

@@ -14,7 +14,7 @@ ghost use Rattle.zr_source.specs.SourceEquilibria.{HasNoSourceEquilibrium, IsSou
 ghost use Rattle.zr_follow.specs.BaseParts.{base_part, base_profile};
 ghost use Rattle.zr_source.specs.Sources.{IsLeader, LeaderOf, leader_of, leaders_of};
 ghost use Rattle.zr_source.specs.SourceForms.{IsLeaderForm, IsSource};
-ghost use Rattle.zr_follow.specs.Expansion.{IsExpanded, IsExpansion, IsFirstPast, IsWithinCounts, all_pairs};
+ghost use Rattle.zr_follow.specs.Expansion.{IsFirstPast, IsWithinCounts, all_pairs, expanded, expansion};
 
 use crate::conditions::add_all_pairs;
 use crate::copies::{add_multipliers, copied_pairs, copied_rows, copied_vars};
@@ -47,7 +47,7 @@ pub enum FollowError {
 /// exactly where the source has none.
 pub fn expand(alloc: Global, source: &Source) -> Result<Game, FollowError>
     ensures ok { IfOk result (λ game.
-        IsExpansion (leaders_of source.now.leaders.items) (game_of game)) }
+        game_of game ≡ expansion (leaders_of source.now.leaders.items)) }
     ensures feasible { IfOk result (λ game. (i : ℕ) (leader : LeaderOf) (player : PlayerOf)
         → IsLeader (leaders_of source.now.leaders.items) i leader
         → IsPlayer (game_of game) i player → (x : PointOf) → pos 0 <ℤ x.den
@@ -90,7 +90,7 @@ fn first_past(leaders: &[Leader]) -> Option<u32>
 fn expanded_players(alloc: Global, leaders: &[Leader]) -> Result<Vec<Player>, AllocError>
     requires { IsSource (leaders_of leaders.now) }
     ensures { IfOk result (λ players.
-        IsExpansion (leaders_of leaders.now) (players_of players.items)) }
+        players_of players.items ≡ expansion (leaders_of leaders.now)) }
 {
     let mut players = Vec::new(alloc);
     for leader in leaders {
@@ -103,7 +103,7 @@ fn expanded_players(alloc: Global, leaders: &[Leader]) -> Result<Vec<Player>, Al
 fn expanded_player(alloc: Global, leader: &Leader) -> Result<Player, AllocError>
     requires form { IsLeaderForm (leader_of leader.now) }
     requires vars { length leader.now.base.vars.items ≤ 64 }
-    ensures { IfOk result (λ player. IsExpanded (leader_of leader.now) (player_of player)) }
+    ensures { IfOk result (λ player. player_of player ≡ expanded (leader_of leader.now)) }
 {
     let name = leader.base.name.clone()?;
     let mut vars = copied_vars(alloc, &leader.base.vars)?;

@@ -1,12 +1,10 @@
-use Rattle.std.proofs.Common.{◌≡◌, ℕ, length}
-use Rattle.zr_game.specs.Forms.{IsPlayer}
-use Rattle.zr_game.specs.Players.{PlayerOf, players_of}
-use Rattle.zr_follow.specs.Expansion.{IsExpanded}
-use Rattle.zr_source.specs.Sources.{IsLeader, LeaderOf, leaders_of}
+use Rattle.std.proofs.Common.{◌≡◌, ◌++◌, drop}
+use Rattle.zr_game.specs.Players.{players_of}
+use Rattle.zr_follow.specs.Expansion.{expansion}
+use Rattle.zr_source.specs.Sources.{leaders_of}
 use Rattle.zr_follow.proofs.expansion.expanded_players.Given as goal
 
 abbrev pub invariant-loop-leader : goal.invariant-loop-leader
-invariant-loop-leader l = record {
-  len : length l.players.items ≡ l.leader-index;
-  each : (k : ℕ) (leader : LeaderOf) (player : PlayerOf) → IsLeader (leaders_of l.leaders) k leader → IsPlayer (players_of l.players.items) k player → IsExpanded leader player;
-}
+invariant-loop-leader l =
+    players_of l.players.items ++ expansion (leaders_of (drop l.leader-index l.leaders))
+    ≡ expansion (leaders_of l.leaders)
