@@ -14,7 +14,7 @@ use Rattle.zr_game.specs.Players.{PlayerOf}
 use Rattle.zr_game.specs.Leaves.{Bound, BoundHolds, slot_of}
 use Rattle.zr_tree.specs.Nodes.{Multipliers}
 use Rattle.zr_tree.specs.Right.{ArePositive, ArePresent, IsRefuting, IsScaled, left_of, right_of}
-use Rattle.zr_tree.proofs.Holding.{SlotHolds}
+use Rattle.zr_game.proofs.Holding.{SlotHolds}
 
 -- the form of multipliers says that they are positive
 pub positive_if : (low : ℕ) (mult : Multipliers) → AscendWith (λ z. ((pos 1) ≤ℤ z) × IsNarrow z) low (2 ^ 32) mult → ArePositive mult

@@ -1,6 +1,5 @@
 -- Each feasible point is inside an end of a tree; so a right tree's row holds there.
-use Rattle.std.proofs.Common.{◌≡◌, ◌≢◌, ℕ, ◌<◌, ◌==◌, arith, refl, subst, ℤ, pos, ◌+ℤ◌, ◌*ℤ◌, ◌≤ℤ◌, Bool, true, false, cond, IfSome, Option, Some, None, All, length, slice_get, ◌⊎◌, ⊎_elim, inl, inr, int_le}
-use Rattle.std.specs.Option.{option_and_then}
+use Rattle.std.proofs.Common.{◌≡◌, ◌≢◌, ℕ, ◌<◌, ◌==◌, arith, refl, subst, ℤ, pos, ◌+ℤ◌, ◌*ℤ◌, ◌≤ℤ◌, Bool, true, false, cond, Option, Some, None, All, length, slice_get, ◌⊎◌, ⊎_elim, inl, inr, int_le}
 use Rattle.std.proofs.lemmas.Int.{ints}
 use Rattle.std.proofs.lemmas.Bool.{cases_eq}
 use Rattle.std.proofs.lemmas.Bool.Decides.{nat_tests}
@@ -17,7 +16,7 @@ use Rattle.zr_game.proofs.Items.{at_number}
 use Rattle.zr_tree.specs.Nodes.{NodeOf, SplitNode, ChooseNode, ProofNode, KnownNode, LooseNode}
 use Rattle.zr_tree.specs.Trees.{TreeOf, Split, Choose, Proof, Known, Loose}
 use Rattle.zr_tree.specs.Right.{EndRule, IsRefuted, IsRefuting, IsRight, IsRightBy, IsScaled, ProvesRow, Refutes}
-use Rattle.zr_tree.proofs.Holding.{Inside, SideHolds, all_slots}
+use Rattle.zr_game.proofs.Holding.{Inside, SideHolds, all_slots, in_root}
 use Rattle.zr_tree.proofs.Combinations.{refuting, scaled}
 
 le_or_above : (a b : ℤ) → (a ≤ℤ b) ⊎ ((b +ℤ pos 1) ≤ℤ a)
@@ -119,21 +118,6 @@ module _ (player : PlayerOf) (x : PointOf) (feasible : IsFeasible player x) wher
   at_end rule P end (Known y) leaf inside right = end leaf (KnownNode y) inside right
   at_end rule P end Loose leaf inside right = end leaf LooseNode inside right
 
-  pub root_inside : Inside player (root_leaf player) x
-  root_inside = record {
-    lows = λ v l h e. lower v l (slice_get player.vars v) (λ var g. (feasible.bounds v var g).low) e;
-    highs = λ v u h e. upper v u (slice_get player.vars v) (λ var g. (feasible.bounds v var g).high) e;
-    sides = λ p pair e. tt;
-  }
-    where
-      lower : (v : ℕ) (l : ℤ) (o : Option VarOf) → ((var : VarOf) → o ≡ Some var → IfSome var.low (λ low. (low *ℤ x.den) ≤ℤ num_of x v)) → option_and_then (λ var. var.low) o ≡ Some l → (l *ℤ x.den) ≤ℤ num_of x v
-      lower v l None f e = absurd cc
-      lower v l (Some var) f e = rw e at (f var refl)
-
-      upper : (v : ℕ) (u : ℤ) (o : Option VarOf) → ((var : VarOf) → o ≡ Some var → IfSome var.up (λ up. num_of x v ≤ℤ (up *ℤ x.den))) → option_and_then (λ var. var.up) o ≡ Some u → num_of x v ≤ℤ (u *ℤ x.den)
-      upper v u None f e = absurd cc
-      upper v u (Some var) f e = rw e at (f var refl)
-
   module _ (rows : All (IsRowForm (length player.vars)) player.rows) (pairs : All (IsPairForm (length player.vars)) player.pairs) where
     end_proves : (bound : Bound) (leaf : LeafOf) (node : NodeOf) → Inside player leaf x → ProvesRow player bound leaf node → BoundHolds player x bound
     end_proves bound leaf (SplitNode v at) inside h = absurd h
@@ -155,10 +139,10 @@ module _ (player : PlayerOf) (x : PointOf) (feasible : IsFeasible player x) wher
 
     pub holds_at_root : (bound : Bound) (tree : TreeOf) → IsRight player bound (root_leaf player) tree → BoundHolds player x bound
     holds_at_root bound tree right =
-        at_end (ProvesRow player bound) (BoundHolds player x bound) (end_proves bound) tree (root_leaf player) root_inside right
+        at_end (ProvesRow player bound) (BoundHolds player x bound) (end_proves bound) tree (root_leaf player) (in_root player x feasible) right
 
     pub none_at_root : (tree : TreeOf) → IsRefuted player (root_leaf player) tree → ⊥
-    none_at_root tree right = at_end (Refutes player) ⊥ end_refutes tree (root_leaf player) root_inside right
+    none_at_root tree right = at_end (Refutes player) ⊥ end_refutes tree (root_leaf player) (in_root player x feasible) right
 
 -- a tree that refutes its leaf is right for each row
 pub right_if_refuted : (player : PlayerOf) (bound : Bound) (t : TreeOf) (leaf : LeafOf) → IsRefuted player leaf t → IsRight player bound leaf t

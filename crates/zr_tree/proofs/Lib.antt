@@ -4,7 +4,6 @@ pub mod PathLaws
 pub mod Forests
 pub mod Walking
 pub mod PassLaws
-pub mod Holding
 pub mod Combinations
 pub mod Descent
 pub mod Moves

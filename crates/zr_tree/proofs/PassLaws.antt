@@ -35,24 +35,24 @@ module _ (right wide : EndRule) where
 
   module _ (player : PlayerOf) where
     -- a tree whose ends all pass is right and has no end that is too wide
-    pub right_if : (t : TreeOf) (leaf : LeafOf) → IsRightBy passes player leaf t → IsRightBy right player leaf t × (HasWideEnd wide leaf t → ⊥)
+    pub right_if : (t : TreeOf) (leaf : LeafOf) → IsRightBy passes player leaf t → IsRightBy right player leaf t × (HasWideEnd wide player leaf t → ⊥)
     right_if (Split v at first second) leaf h =
         let a = right_if first (below leaf v at) h.1 in
         let b = right_if second (above leaf v at) h.2 in
-        ((h.0, a.0, b.0), λ w. ⊎_elim a.1 b.1 w)
+        ((h.0, a.0, b.0), λ w. ⊎_elim a.1 b.1 w.1)
     right_if (Choose p first second) leaf h =
         let a = right_if first (decided leaf p VarZero) h.1 in
         let b = right_if second (decided leaf p RowZero) h.2 in
-        ((h.0, a.0, b.0), λ w. ⊎_elim a.1 b.1 w)
+        ((h.0, a.0, b.0), λ w. ⊎_elim a.1 b.1 w.1)
     right_if (Proof scale mult) leaf h = h
     right_if (Known x) leaf h = h
     right_if Loose leaf h = h
 
-    pub passes_if : (t : TreeOf) (leaf : LeafOf) → IsRightBy right player leaf t → (HasWideEnd wide leaf t → ⊥) → IsRightBy passes player leaf t
+    pub passes_if : (t : TreeOf) (leaf : LeafOf) → IsRightBy right player leaf t → (HasWideEnd wide player leaf t → ⊥) → IsRightBy passes player leaf t
     passes_if (Split v at first second) leaf h n =
-        (h.0, passes_if first (below leaf v at) h.1 (λ w. n (inl w)), passes_if second (above leaf v at) h.2 (λ w. n (inr w)))
+        (h.0, passes_if first (below leaf v at) h.1 (λ w. n (h.0, inl w)), passes_if second (above leaf v at) h.2 (λ w. n (h.0, inr w)))
     passes_if (Choose p first second) leaf h n =
-        (h.0, passes_if first (decided leaf p VarZero) h.1 (λ w. n (inl w)), passes_if second (decided leaf p RowZero) h.2 (λ w. n (inr w)))
+        (h.0, passes_if first (decided leaf p VarZero) h.1 (λ w. n (h.0, inl w)), passes_if second (decided leaf p RowZero) h.2 (λ w. n (h.0, inr w)))
     passes_if (Proof scale mult) leaf h n = (h, n)
     passes_if (Known x) leaf h n = (h, n)
     passes_if Loose leaf h n = (h, n)
@@ -78,7 +78,7 @@ module _ (right wide : EndRule) where
     one_fault Loose k leaf f g r s = one_end k leaf LooseNode f g r s
 
     -- what is told of a tree makes the answer exact
-    pub exact_told : {A : Type 0} (t : TreeOf) (leaf : LeafOf) (result : Result A Fault) → OnOk result (IsRightBy passes player leaf t) → IfErr result (IsRefusedBy right wide player 0 leaf t) → IsOk result ↔ (IsRightBy right player leaf t × (HasWideEnd wide leaf t → ⊥))
+    pub exact_told : {A : Type 0} (t : TreeOf) (leaf : LeafOf) (result : Result A Fault) → OnOk result (IsRightBy passes player leaf t) → IfErr result (IsRefusedBy right wide player 0 leaf t) → IsOk result ↔ (IsRightBy right player leaf t × (HasWideEnd wide player leaf t → ⊥))
     exact_told t leaf (Ok a) ok err = (λ h. right_if t leaf ok, λ h. refl)
     exact_told t leaf (Err fault) ok err =
         (λ h. absurd cc, λ h. absurd (exclusive t 0 leaf fault (passes_if t leaf h.0 h.1) err))

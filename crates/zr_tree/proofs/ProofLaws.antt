@@ -8,9 +8,8 @@ use Rattle.zr_base.specs.Tests.{first_wide, or_else, wide_in}
 use Rattle.zr_base.proofs.SumSteps.{sum_steps_exact}
 use Rattle.zr_base.proofs.Telling.{both_true, true_both}
 use Rattle.zr_game.specs.Players.{PlayerOf}
-use Rattle.zr_game.specs.Leaves.{Bound, LeafOf, slots}
+use Rattle.zr_game.specs.Leaves.{Bound, LeafOf, bound_with, slots}
 use Rattle.zr_tree.specs.Nodes.{Multipliers}
-use Rattle.zr_tree.specs.Listed.{bound_of}
 use Rattle.zr_tree.specs.Right.{ArePositive, ArePresent, IsProof, IsRefuting, IsScaled, left_of, right_of, slot_coef, slot_le}
 use Rattle.zr_tree.specs.Steps.{IsWideProof, left_steps, right_steps}
 use Rattle.zr_tree.specs.Combining.{HasWideStep, IsCombined}
@@ -66,7 +65,7 @@ module _ (player : PlayerOf) (coef : List ℤ) (le : ℤ) (leaf : LeafOf) (scale
   rows = slots player leaf
 
   abbrev bound : Bound
-  bound = bound_of coef le
+  bound = bound_with coef le
 
   pub absent_tells : (ArePresent rows mult → ⊥) → ProofTells (Ok false) player bound leaf scale mult
   absent_tells none = (λ w. none w.0, (λ h. absurd cc, λ h. absurd (none h.0)))

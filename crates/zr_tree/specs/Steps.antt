@@ -70,15 +70,19 @@ IsRefusedBy right wide player k leaf (Proof scale mult) fault =
 IsRefusedBy right wide player k leaf (Known x) fault = EndRefused right wide k leaf (KnownNode x) fault
 IsRefusedBy right wide player k leaf Loose fault = EndRefused right wide k leaf LooseNode fault
 
--- a step at some end is too wide
-abbrev pub HasWideEnd : EndRule → LeafOf → TreeOf → Type 0
-HasWideEnd wide leaf (Split v at first second) =
-    HasWideEnd wide (below leaf v at) first ⊎ HasWideEnd wide (above leaf v at) second
-HasWideEnd wide leaf (Choose p first second) =
-    HasWideEnd wide (decided leaf p VarZero) first ⊎ HasWideEnd wide (decided leaf p RowZero) second
-HasWideEnd wide leaf (Proof scale mult) = wide leaf (ProofNode scale mult)
-HasWideEnd wide leaf (Known x) = wide leaf (KnownNode x)
-HasWideEnd wide leaf Loose = wide leaf LooseNode
+-- a step is too wide at some end to which splits of whole variables and choices of open pairs lead
+abbrev pub HasWideEnd : EndRule → PlayerOf → LeafOf → TreeOf → Type 0
+HasWideEnd wide player leaf (Split v at first second) =
+    IsWholeVar player v
+    × (HasWideEnd wide player (below leaf v at) first
+    ⊎ HasWideEnd wide player (above leaf v at) second)
+HasWideEnd wide player leaf (Choose p first second) =
+    IsOpenPair player leaf p
+    × (HasWideEnd wide player (decided leaf p VarZero) first
+    ⊎ HasWideEnd wide player (decided leaf p RowZero) second)
+HasWideEnd wide player leaf (Proof scale mult) = wide leaf (ProofNode scale mult)
+HasWideEnd wide player leaf (Known x) = wide leaf (KnownNode x)
+HasWideEnd wide player leaf Loose = wide leaf LooseNode
 
 -- the tree is right for the row at the leaf, and no step of its proofs is too wide
 abbrev pub Passes : PlayerOf → Bound → LeafOf → TreeOf → Type 0
@@ -92,4 +96,4 @@ IsRefusedAt player bound k leaf tree fault =
 
 -- a step of some leaf's proof is too wide
 abbrev pub HasWideProof : PlayerOf → Bound → LeafOf → TreeOf → Type 0
-HasWideProof player bound leaf tree = HasWideEnd (IsWideForRow player bound) leaf tree
+HasWideProof player bound leaf tree = HasWideEnd (IsWideForRow player bound) player leaf tree

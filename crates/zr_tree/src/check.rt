@@ -5,11 +5,11 @@ ghost use Rattle.zr_game.specs.Players.{PlayerOf, player_of};
 ghost use Rattle.zr_game.specs.Games.{game_of};
 ghost use Rattle.zr_game.specs.Forms.{IsPlayer};
 ghost use Rattle.zr_game.specs.Feasible.{IsFeasible};
-ghost use Rattle.zr_game.specs.Leaves.{BoundHolds, IsOpenPair, IsWholeVar, leaf_of, root_leaf};
+ghost use Rattle.zr_game.specs.Leaves.{BoundHolds, IsOpenPair, IsWholeVar, bound_with, leaf_of, root_leaf};
 ghost use Rattle.zr_tree.specs.Nodes.{ChooseNode, ProofNode, SplitNode, node_of};
 ghost use Rattle.zr_tree.specs.Form.{IsNodeForm, greatest_split};
 ghost use Rattle.zr_tree.specs.Trees.{TreeOf, preorder};
-ghost use Rattle.zr_tree.specs.Listed.{IsTreeOf, bound_of};
+ghost use Rattle.zr_tree.specs.Listed.{IsTreeOf};
 ghost use Rattle.zr_tree.specs.Right.{ArePositive, IsRight};
 ghost use Rattle.zr_tree.specs.Steps.{HasWideProof, IsRefusedAt, Passes};
 ghost use Rattle.zr_tree.specs.Scratches.{most_pairs, most_vars};
@@ -54,16 +54,16 @@ pub fn bounds(
     requires pairs { most_pairs (game_of game.now) ≤ scratch.old.pairs }
     ensures ok { OnOk result ((player : PlayerOf) → IsPlayer (game_of game.now) i player
         → (t : TreeOf) → IsTreeOf tree.now t
-        → Passes player (bound_of coef.now le) (root_leaf player) t) }
+        → Passes player (bound_with coef.now le) (root_leaf player) t) }
     ensures err { IfErr result (λ fault. (player : PlayerOf) → IsPlayer (game_of game.now) i player
         → (t : TreeOf) → IsTreeOf tree.now t
-        → IsRefusedAt player (bound_of coef.now le) 0 (root_leaf player) t fault) }
+        → IsRefusedAt player (bound_with coef.now le) 0 (root_leaf player) t fault) }
     ensures exact { (player : PlayerOf) → IsPlayer (game_of game.now) i player
         → (t : TreeOf) → IsTreeOf tree.now t
-        → IsOk result ↔ (IsRight player (bound_of coef.now le) (root_leaf player) t
-        × (HasWideProof player (bound_of coef.now le) (root_leaf player) t → ⊥)) }
+        → IsOk result ↔ (IsRight player (bound_with coef.now le) (root_leaf player) t
+        × (HasWideProof player (bound_with coef.now le) (root_leaf player) t → ⊥)) }
     ensures sound { OnOk result ((player : PlayerOf) → IsPlayer (game_of game.now) i player
-        → (x : PointOf) → IsFeasible player x → BoundHolds player x (bound_of coef.now le)) }
+        → (x : PointOf) → IsFeasible player x → BoundHolds player x (bound_with coef.now le)) }
     ensures places { scratch.new ≡ scratch.old }
 {
     let player = &game.players[i as usize];
@@ -86,10 +86,10 @@ fn walk(
     requires few { length nodes.now < 2 ^ 32 }
     requires nodes { All IsNodeForm (map node_of nodes.now) }
     ensures ok { OnOk result ((t : TreeOf) → preorder t ≡ map node_of nodes.now
-        → Passes (player_of player.now) (bound_of coef.now le)
+        → Passes (player_of player.now) (bound_with coef.now le)
         (root_leaf (player_of player.now)) t) }
     ensures err { IfErr result (λ fault. (t : TreeOf) → preorder t ≡ map node_of nodes.now
-        → IsRefusedAt (player_of player.now) (bound_of coef.now le) 0
+        → IsRefusedAt (player_of player.now) (bound_with coef.now le) 0
         (root_leaf (player_of player.now)) t fault) }
     ensures size { IsSameSize room.old.path room.new.path }
     ensures sums { length room.new.sums.items ≡ length room.old.sums.items }
@@ -116,11 +116,11 @@ fn visit(
     requires columns { length (player_of player.now).vars ≤ length room.old.sums.items }
     requires place { room.old.path.depth < length room.old.path.frames.items }
     requires node { IsNodeForm (node_of node.now) }
-    ensures ok { OnOk result (NodePassesRow (player_of player.now) (bound_of coef.now le)
+    ensures ok { OnOk result (NodePassesRow (player_of player.now) (bound_with coef.now le)
         (leaf_of room.old.path.leaf) (node_of node.now)) }
     ensures entered { OnOk result (Entered (player_of player.now)
         (children (leaf_of room.old.path.leaf) (node_of node.now)) room.old.path room.new.path) }
-    ensures err { IfErr result (NodeRefusesRow (player_of player.now) (bound_of coef.now le) k
+    ensures err { IfErr result (NodeRefusesRow (player_of player.now) (bound_with coef.now le) k
         (leaf_of room.old.path.leaf) (node_of node.now)) }
     ensures size { IsSameSize room.old.path room.new.path }
     ensures sums { length room.new.sums.items ≡ length room.old.sums.items }
@@ -184,10 +184,10 @@ fn visit_proof(
     requires coef { length coef.now ≡ length (player_of player.now).vars }
     requires columns { length (player_of player.now).vars ≤ length room.old.sums.items }
     requires positive { ArePositive mult.now }
-    ensures ok { OnOk result (NodePassesRow (player_of player.now) (bound_of coef.now le)
+    ensures ok { OnOk result (NodePassesRow (player_of player.now) (bound_with coef.now le)
         (leaf_of room.old.path.leaf) (ProofNode scale mult.now)) }
     ensures entered { OnOk result (Entered (player_of player.now) [] room.old.path room.new.path) }
-    ensures err { IfErr result (NodeRefusesRow (player_of player.now) (bound_of coef.now le) k
+    ensures err { IfErr result (NodeRefusesRow (player_of player.now) (bound_with coef.now le) k
         (leaf_of room.old.path.leaf) (ProofNode scale mult.now)) }
     ensures size { IsSameSize room.old.path room.new.path }
     ensures sums { length room.new.sums.items ≡ length room.old.sums.items }

@@ -38,8 +38,8 @@ pub fn law_of_right_trees()
         → (x : PointOf) → IsFeasible player x → BoundHolds player x bound }
 {}
 
-/// A player has no feasible point where a tree refutes its root leaf; and such a tree is right for
-/// every row.
+/// Where a tree refutes its root leaf, a player has no feasible point; and a tree that refutes a
+/// leaf is right there for every row.
 pub fn law_of_refuted_trees()
     ensures none { (game : GameOf) → IsGame game
         → (i : ℕ) (player : PlayerOf) → IsPlayer game i player

@@ -2,8 +2,7 @@ ghost use Rattle.std.specs.Prelude.{◌≡◌, ◌<◌, ◌≤◌, ℕ, pos, ◌
 ghost use Rattle.zr_base.specs.Steps.{cross_of};
 ghost use Rattle.zr_base.specs.Tests.{Tells, first_wide, wide_in};
 ghost use Rattle.zr_game.specs.Players.{player_of};
-ghost use Rattle.zr_game.specs.Leaves.{leaf_of};
-ghost use Rattle.zr_tree.specs.Listed.{bound_of};
+ghost use Rattle.zr_game.specs.Leaves.{bound_with, leaf_of};
 ghost use Rattle.zr_tree.specs.Paths.{HasPlaces};
 ghost use Rattle.zr_tree.specs.Right.{ArePositive};
 ghost use Rattle.zr_tree.specs.Visits.{HasForms, ProofTells};
@@ -32,7 +31,7 @@ pub(crate) fn proves(
     requires coef { length coef.now ≡ length (player_of player.now).vars }
     requires columns { length (player_of player.now).vars ≤ length sums.old }
     requires positive { ArePositive mult.now }
-    ensures { ProofTells result (player_of player.now) (bound_of coef.now le)
+    ensures { ProofTells result (player_of player.now) (bound_with coef.now le)
         (leaf_of leaf.now) scale mult.now }
 {
     evaluate(player, leaf, scale, mult, coef, le, &mut sums[..coef.len()])
@@ -52,7 +51,7 @@ fn evaluate(
     requires coef { length coef.now ≡ length (player_of player.now).vars }
     requires columns { length sums.old ≡ length (player_of player.now).vars }
     requires positive { ArePositive mult.now }
-    ensures { ProofTells result (player_of player.now) (bound_of coef.now le)
+    ensures { ProofTells result (player_of player.now) (bound_with coef.now le)
         (leaf_of leaf.now) scale mult.now }
 {
     if !are_present(player, leaf, mult) {

@@ -5,10 +5,9 @@ use Rattle.std.proofs.lemmas.Result.{MatchResult-weaker, on_ok_weaker}
 use Rattle.zr_game.specs.Players.{PlayerOf, player_of}
 use Rattle.zr_game.specs.Forms.{IsPlayer, IsPlayerForm}
 use Rattle.zr_game.specs.Games.{game_of}
-use Rattle.zr_game.specs.Leaves.{root_leaf}
+use Rattle.zr_game.specs.Leaves.{bound_with, root_leaf}
 use Rattle.zr_game.proofs.Items.{found, one, read_below}
 use Rattle.zr_tree.specs.Nodes.{node_of}
-use Rattle.zr_tree.specs.Listed.{bound_of}
 use Rattle.zr_tree.specs.Scratches.{Places}
 use Rattle.zr_tree.specs.Right.{ProvesRow}
 use Rattle.zr_tree.specs.Steps.{IsRefusedAt, IsWideForRow, Passes}
@@ -59,19 +58,19 @@ pub returns-clause-ok : goal.returns-clause-ok
 returns-clause-ok c =
     let at = (goal.at.returns-clause-ok c).After-index-player in
     let f : FitsSigned w128 c.args.le = search rules in
-    on_ok_weaker c.walk.result (λ h player is t e. subst (λ (p : PlayerOf). Passes p (bound_of c.args.coef.now c.args.le) (root_leaf p) t) (same at player is) (h t (e ∙ ap (map node_of) (sym c.deref.ensures.value)))) (simp to_z-of_z at c.walk.ensures.ok)
+    on_ok_weaker c.walk.result (λ h player is t e. subst (λ (p : PlayerOf). Passes p (bound_with c.args.coef.now c.args.le) (root_leaf p) t) (same at player is) (h t (e ∙ ap (map node_of) (sym c.deref.ensures.value)))) (simp to_z-of_z at c.walk.ensures.ok)
 
 pub returns-clause-err : goal.returns-clause-err
 returns-clause-err c =
     let at = (goal.at.returns-clause-err c).After-index-player in
     let f : FitsSigned w128 c.args.le = search rules in
-    MatchResult-weaker c.walk.result (simp to_z-of_z at c.walk.ensures.err) (λ u h. h) (λ fault h player is t e. subst (λ (p : PlayerOf). IsRefusedAt p (bound_of c.args.coef.now c.args.le) 0 (root_leaf p) t fault) (same at player is) (h t (e ∙ ap (map node_of) (sym c.deref.ensures.value))))
+    MatchResult-weaker c.walk.result (simp to_z-of_z at c.walk.ensures.err) (λ u h. h) (λ fault h player is t e. subst (λ (p : PlayerOf). IsRefusedAt p (bound_with c.args.coef.now c.args.le) 0 (root_leaf p) t fault) (same at player is) (h t (e ∙ ap (map node_of) (sym c.deref.ensures.value))))
 
 pub returns-clause-exact : goal.returns-clause-exact
 returns-clause-exact c player is t e =
     let at = (goal.at.returns-clause-exact c).After-index-player in
     let f : FitsSigned w128 c.args.le = search rules in
-    let bound = bound_of c.args.coef.now c.args.le in
+    let bound = bound_with c.args.coef.now c.args.le in
     let listed = e ∙ ap (map node_of) (sym c.deref.ensures.value) in
     let ok = on_ok_weaker c.walk.result (λ h. subst (λ (p : PlayerOf). Passes p bound (root_leaf p) t) (same at player is) (h t listed)) (simp to_z-of_z at c.walk.ensures.ok) in
     let err = MatchResult-weaker c.walk.result (simp to_z-of_z at c.walk.ensures.err) (λ u h. h) (λ fault h. subst (λ (p : PlayerOf). IsRefusedAt p bound 0 (root_leaf p) t fault) (same at player is) (h t listed)) in
@@ -81,7 +80,7 @@ pub returns-clause-sound : goal.returns-clause-sound
 returns-clause-sound c =
     let at = (goal.at.returns-clause-sound c).After-index-player in
     let f : FitsSigned w128 c.args.le = search rules in
-    let bound = bound_of c.args.coef.now c.args.le in
+    let bound = bound_with c.args.coef.now c.args.le in
     let t = tree_of (map node_of c.args.tree.now.nodes.items) c.args.tree.now.whole.whole in
     let listed = t.1 ∙ ap (map node_of) (sym c.deref.ensures.value) in
     on_ok_weaker c.walk.result (λ h player is x feasible. let p : Passes player bound (root_leaf player) t.0 = subst (λ (p : PlayerOf). Passes p bound (root_leaf p) t.0) (same at player is) (h t.0 listed) in let g = c.args.game.now.sound.players c.args.i player is in holds_at_root player x feasible g.rows g.pairs bound t.0 (right_if (ProvesRow player bound) (IsWideForRow player bound) player t.0 (root_leaf player) p).0) (simp to_z-of_z at c.walk.ensures.ok)

@@ -6,7 +6,7 @@ use Rattle.zr_game.specs.Players.{player_of}
 use Rattle.zr_game.proofs.Items.{item}
 use Rattle.zr_tree.specs.Nodes.{node_of}
 use Rattle.zr_tree.specs.Form.{IsNodeForm}
-use Rattle.zr_tree.specs.Listed.{bound_of}
+use Rattle.zr_game.specs.Leaves.{bound_with}
 use Rattle.zr_tree.specs.Right.{ProvesRow}
 use Rattle.zr_tree.specs.Steps.{IsWideForRow}
 use Rattle.zr_tree.proofs.Moves.{size_on, standing_first, standing_last, standing_next, standing_stopped}
@@ -18,7 +18,7 @@ loop-k-init c =
     let s = c.start.ensures in
     let d = s.depth in
     simp to_z-of_z (record {
-      standing = standing_first (ProvesRow (player_of c.args.player.now) (bound_of c.args.coef.now c.args.le)) (IsWideForRow (player_of c.args.player.now) (bound_of c.args.coef.now c.args.le)) (player_of c.args.player.now) c.args.nodes.now c.start.new.path s.leaf s.depth;
+      standing = standing_first (ProvesRow (player_of c.args.player.now) (bound_with c.args.coef.now c.args.le)) (IsWideForRow (player_of c.args.player.now) (bound_with c.args.coef.now c.args.le)) (player_of c.args.player.now) c.args.nodes.now c.start.new.path s.leaf s.depth;
       path = s.path;
       size = s.size;
       sums = refl;
@@ -35,7 +35,7 @@ returns-in_err-visit-clause-err c =
     let p = err_from_is_err_and c.from_residual.result c.from_residual.ensures.1 in
     let i = simp to_z-of_z at c.loop-k.invariant in
     let e = simp to_z-of_z at c.in_err-visit.ensures in
-    rw (p.1, p.2) (standing_stopped (ProvesRow (player_of c.args.player.now) (bound_of c.args.coef.now c.args.le)) (IsWideForRow (player_of c.args.player.now) (bound_of c.args.coef.now c.args.le)) (player_of c.args.player.now) c.args.nodes.now c.loop-k.k c.index-nodes-k.result c.loop-k-test.true c.index-nodes-k.is c.loop-k.room.path i.standing _ e.err)
+    rw (p.1, p.2) (standing_stopped (ProvesRow (player_of c.args.player.now) (bound_with c.args.coef.now c.args.le)) (IsWideForRow (player_of c.args.player.now) (bound_with c.args.coef.now c.args.le)) (player_of c.args.player.now) c.args.nodes.now c.loop-k.k c.index-nodes-k.result c.loop-k-test.true c.index-nodes-k.is c.loop-k.room.path i.standing _ e.err)
 
 pub loop-k-preserved : goal.loop-k-preserved
 loop-k-preserved c =
@@ -45,7 +45,7 @@ loop-k-preserved c =
     let d = e.entered.depth in
     let n = i.depth in
     simp to_z-of_z (record {
-      standing = standing_next (ProvesRow (player_of c.args.player.now) (bound_of c.args.coef.now c.args.le)) (IsWideForRow (player_of c.args.player.now) (bound_of c.args.coef.now c.args.le)) (player_of c.args.player.now) c.args.nodes.now c.loop-k.k c.index-nodes-k.result c.loop-k-test.true c.index-nodes-k.is c.loop-k.room.path i.standing c.visit.new.room.path e.ok e.entered.due;
+      standing = standing_next (ProvesRow (player_of c.args.player.now) (bound_with c.args.coef.now c.args.le)) (IsWideForRow (player_of c.args.player.now) (bound_with c.args.coef.now c.args.le)) (player_of c.args.player.now) c.args.nodes.now c.loop-k.k c.index-nodes-k.result c.loop-k-test.true c.index-nodes-k.is c.loop-k.room.path i.standing c.visit.new.room.path e.ok e.entered.due;
       path = e.entered.path;
       size = size_on c.args.room.now.path c.loop-k.room.path c.visit.new.room.path i.size e.size;
       sums = e.sums ∙ i.sums;
@@ -56,4 +56,4 @@ pub returns-clause-ok : goal.returns-clause-ok
 returns-clause-ok c =
     let f : FitsSigned w128 c.args.le = search rules in
     let i = simp to_z-of_z at c.loop-k.invariant in
-    standing_last (ProvesRow (player_of c.args.player.now) (bound_of c.args.coef.now c.args.le)) (IsWideForRow (player_of c.args.player.now) (bound_of c.args.coef.now c.args.le)) (player_of c.args.player.now) c.args.nodes.now c.loop-k.k c.loop-k.room.path c.loop-k-test.false i.standing
+    standing_last (ProvesRow (player_of c.args.player.now) (bound_with c.args.coef.now c.args.le)) (IsWideForRow (player_of c.args.player.now) (bound_with c.args.coef.now c.args.le)) (player_of c.args.player.now) c.args.nodes.now c.loop-k.k c.loop-k.room.path c.loop-k-test.false i.standing
