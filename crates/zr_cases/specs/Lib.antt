@@ -1,0 +1,4 @@
+pub mod Cases
+pub mod Forms
+pub mod FormLaws
+pub mod Trees
