@@ -5,10 +5,10 @@ use Rattle.std.proofs.lemmas.Bool.{cases_eq}
 use Rattle.zr_base.proofs.Ring.{spread}
 use Rattle.zr_base.proofs.Divisors.{mul_positive}
 use Rattle.zr_basis.specs.Programs.{Program}
-use Rattle.zr_basis.specs.BasicForms.{value_column, right_column, IsBasicForm}
+use Rattle.zr_basis.specs.BasicForms.{value_column, right_column, IsBasicForm, IsBasicDirection}
 use Rattle.zr_basis.specs.Vectors.{IsLeading, IsLower}
 use Rattle.zr_basis.specs.Primal.{vector, IsPrimalDue}
-use Rattle.zr_basis.specs.Dual.{IsRay, IsRayBelow, IsDualDue}
+use Rattle.zr_basis.specs.Dual.{IsDirectionBelow, IsDualDue}
 use Rattle.zr_basis.proofs.Signs.{sign, side}
 use Rattle.zr_basis.proofs.Vectors.{IsNought, never_both, in_proportion, three_ways, lower_trans, lower_apart}
 use Rattle.zr_basis.proofs.Solved.{direction}
@@ -49,17 +49,17 @@ scaled_gap x y u v d e c f k l first second =
     simp spread (omega (arith, ints, g, h))
 
 -- it goes by the columns which direction is lower
-lower_alike : (p : Program) (basis : ℕ → ℕ) (form : ℕ → ℕ → ℤ) → IsBasicForm p basis form → (k l : ℕ) (s t : ℤ) (y v : ℕ → ℤ) (e f : ℤ) → IsRay p basis form k y e → IsRay p basis form k v f → (x u : ℕ → ℤ) (d c : ℤ) → IsRay p basis form l x d → IsRay p basis form l u c → IsLower (value_column p) y (e *ℤ s) x (d *ℤ t) → IsLower (value_column p) v (f *ℤ s) u (c *ℤ t)
-lower_alike p basis form basic k l s t y v e f ray_y ray_v x u d c ray_x ray_u lower = in_proportion (value_column p) (λ j. u j *ℤ (f *ℤ s) -ℤ v j *ℤ (c *ℤ t)) (λ j. x j *ℤ (e *ℤ s) -ℤ y j *ℤ (d *ℤ t)) (d *ℤ e) (c *ℤ f) (mul_positive d e ray_x.0 ray_y.0) (mul_positive c f ray_u.0 ray_v.0) (λ j h. scaled_gap (x j) (y j) (u j) (v j) d e c f s t (proportional (x j) (u j) d c (same_ray p basis form basic l (pos 1) x u d c ray_x ray_u j h)) (proportional (y j) (v j) e f (same_ray p basis form basic k (pos 1) y v e f ray_y ray_v j h))) lower
+lower_alike : (p : Program) (basis : ℕ → ℕ) (form : ℕ → ℕ → ℤ) → IsBasicForm p basis form → (k l : ℕ) (s t : ℤ) (y v : ℕ → ℤ) (e f : ℤ) → IsBasicDirection p basis form k y e → IsBasicDirection p basis form k v f → (x u : ℕ → ℤ) (d c : ℤ) → IsBasicDirection p basis form l x d → IsBasicDirection p basis form l u c → IsLower (value_column p) y (e *ℤ s) x (d *ℤ t) → IsLower (value_column p) v (f *ℤ s) u (c *ℤ t)
+lower_alike p basis form basic k l s t y v e f ray_y ray_v x u d c ray_x ray_u lower = in_proportion (value_column p) (λ j. u j *ℤ (f *ℤ s) -ℤ v j *ℤ (c *ℤ t)) (λ j. x j *ℤ (e *ℤ s) -ℤ y j *ℤ (d *ℤ t)) (d *ℤ e) (c *ℤ f) (mul_positive d e ray_x.positive ray_y.positive) (mul_positive c f ray_u.positive ray_v.positive) (λ j h. scaled_gap (x j) (y j) (u j) (v j) d e c f s t (proportional (x j) (u j) d c (same_ray p basis form basic l (pos 1) x u d c ray_x ray_u j h)) (proportional (y j) (v j) e f (same_ray p basis form basic k (pos 1) y v e f ray_y ray_v j h))) lower
 
 module _ (p : Program) (basis : ℕ → ℕ) (form : ℕ → ℕ → ℤ) (basic : IsBasicForm p basis form) (row : ℕ) (below : row < p.rows) where
   abbrev pub Marked : ℕ → Type 0
   Marked k = (k < value_column p) × (form row k <ℤ (pos 0))
 
   abbrev pub Below : ℕ → ℕ → Type 0
-  Below k l = IsRayBelow p basis form row k l
+  Below k l = IsDirectionBelow p basis form row k l
 
-  ray_of : (k : ℕ) → Marked k → (x : ℕ → ℤ) × (d : ℤ) × IsRay p basis form k x d
+  ray_of : (k : ℕ) → Marked k → (x : ℕ → ℤ) × (d : ℤ) × IsBasicDirection p basis form k x d
   ray_of k (h, under) = direction p basis form basic k (h, free_under p basis form basic row k below under)
 
   marks : (k : ℕ) → Marked k ⊎ (Marked k → ⊥)
@@ -68,7 +68,7 @@ module _ (p : Program) (basis : ℕ → ℕ) (form : ℕ → ℕ → ℤ) (basic
   decides : (k l : ℕ) → Marked k → Marked l → Below k l ⊎ (Below k l → ⊥)
   decides k l m n = by (ray_of k m) (ray_of l n)
     where
-      by : (y : ℕ → ℤ) × (e : ℤ) × IsRay p basis form k y e → (x : ℕ → ℤ) × (d : ℤ) × IsRay p basis form l x d → Below k l ⊎ (Below k l → ⊥)
+      by : (y : ℕ → ℤ) × (e : ℤ) × IsBasicDirection p basis form k y e → (x : ℕ → ℤ) × (d : ℤ) × IsBasicDirection p basis form l x d → Below k l ⊎ (Below k l → ⊥)
       by (y, e, ray_y) (x, d, ray_x) = ⊎_elim (λ (a : IsLower (value_column p) y (e *ℤ neg_ℤ (form row k)) x (d *ℤ neg_ℤ (form row l))). inl (λ v f ray_v u c ray_u. lower_alike p basis form basic k l (neg_ℤ (form row k)) (neg_ℤ (form row l)) y v e f ray_y ray_v x u d c ray_x ray_u a)) (λ (never : IsLower (value_column p) y (e *ℤ neg_ℤ (form row k)) x (d *ℤ neg_ℤ (form row l)) → ⊥). inr (λ all. never (all y e ray_y x d ray_x))) (leading_or (value_column p) (λ j. x j *ℤ (e *ℤ neg_ℤ (form row k)) -ℤ y j *ℤ (d *ℤ neg_ℤ (form row l))))
 
   up : (k : ℕ) → Marked k → (d : ℤ) → (pos 0) <ℤ d → (pos 0) <ℤ (d *ℤ neg_ℤ (form row k))
@@ -77,14 +77,14 @@ module _ (p : Program) (basis : ℕ → ℕ) (form : ℕ → ℕ → ℤ) (basic
   pub chain : (k l m : ℕ) → Marked k → Marked l → Marked m → Below k l → Below l m → Below k m
   chain k l m a b c first second y e ray_y x d ray_x = by (ray_of l b)
     where
-      by : (v : ℕ → ℤ) × (f : ℤ) × IsRay p basis form l v f → IsLower (value_column p) y (e *ℤ neg_ℤ (form row k)) x (d *ℤ neg_ℤ (form row m))
+      by : (v : ℕ → ℤ) × (f : ℤ) × IsBasicDirection p basis form l v f → IsLower (value_column p) y (e *ℤ neg_ℤ (form row k)) x (d *ℤ neg_ℤ (form row m))
       by (v, f, ray_v) =
-          lower_trans (value_column p) y v x (e *ℤ neg_ℤ (form row k)) (f *ℤ neg_ℤ (form row l)) (d *ℤ neg_ℤ (form row m)) (up k a e ray_y.0) (up l b f ray_v.0) (up m c d ray_x.0) (first y e ray_y v f ray_v) (second v f ray_v x d ray_x)
+          lower_trans (value_column p) y v x (e *ℤ neg_ℤ (form row k)) (f *ℤ neg_ℤ (form row l)) (d *ℤ neg_ℤ (form row m)) (up k a e ray_y.positive) (up l b f ray_v.positive) (up m c d ray_x.positive) (first y e ray_y v f ray_v) (second v f ray_v x d ray_x)
 
   pub self : (k : ℕ) → Marked k → Below k k → ⊥
   self k m below = by (ray_of k m)
     where
-      by : (y : ℕ → ℤ) × (e : ℤ) × IsRay p basis form k y e → ⊥
+      by : (y : ℕ → ℤ) × (e : ℤ) × IsBasicDirection p basis form k y e → ⊥
       by (y, e, ray) =
           lower_apart (value_column p) y y (e *ℤ neg_ℤ (form row k)) (e *ℤ neg_ℤ (form row k)) (λ j h. refl) (below y e ray y e ray)
 
@@ -92,8 +92,8 @@ module _ (p : Program) (basis : ℕ → ℕ) (form : ℕ → ℕ → ℤ) (basic
   pub due_if_least : (r : ℕ) → Marked r → form row (right_column p) <ℤ (pos 0) → ((i : ℕ) → i < value_column p → Marked i → Below i r → ⊥) → IsDualDue p basis form row r
   due_if_least r m right all = with_ray (ray_of r m)
     where
-      with_ray : (x : ℕ → ℤ) × (d : ℤ) × IsRay p basis form r x d → IsDualDue p basis form row r
-      with_ray (x, d, ray) = record { below = below; column = m.0; right = right; under = m.1; ray = x; over = d; is_ray = ray; least = λ i free b y e ray_y lower. all i free.0 (free.0, b) (λ v f ray_v u c ray_u. lower_alike p basis form basic i r (neg_ℤ (form row i)) (neg_ℤ (form row r)) y v e f ray_y ray_v x u d c ray ray_u lower) }
+      with_ray : (x : ℕ → ℤ) × (d : ℤ) × IsBasicDirection p basis form r x d → IsDualDue p basis form row r
+      with_ray (x, d, ray) = record { below = below; column = m.0; right = right; under = m.1; direction = x; over = d; is_direction = ray; least = λ i free b y e ray_y lower. all i free.0 (free.0, b) (λ v f ray_v u c ray_u. lower_alike p basis form basic i r (neg_ℤ (form row i)) (neg_ℤ (form row r)) y v e f ray_y ray_v x u d c ray ray_u lower) }
 
   -- where a right side is below zero, and so is a number of its row, the dual rule has a column
   pub dual_column : (k : ℕ) → k < value_column p → form row k <ℤ (pos 0) → form row (right_column p) <ℤ (pos 0) → (col : ℕ) × IsDualDue p basis form row col

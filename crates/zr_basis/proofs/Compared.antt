@@ -3,9 +3,9 @@ use Rattle.std.proofs.Common.{◌≡◌, ◌≢◌, ℕ, ◌<◌, ◌≤◌, ari
 use Rattle.std.proofs.lemmas.Int.{ints}
 use Rattle.std.proofs.lemmas.Bool.{cases_eq}
 use Rattle.zr_basis.specs.Programs.{Program}
-use Rattle.zr_basis.specs.BasicForms.{value_column, IsBasicForm}
+use Rattle.zr_basis.specs.BasicForms.{value_column, IsBasicForm, IsBasicDirection}
 use Rattle.zr_basis.specs.Vectors.{IsLeading}
-use Rattle.zr_basis.specs.Dual.{IsRay, IsRayBelow, IsFree, IsComparison}
+use Rattle.zr_basis.specs.Dual.{IsDirectionBelow, IsFree, IsComparison}
 use Rattle.zr_basis.proofs.Signs.{side}
 use Rattle.zr_basis.proofs.Solved.{columns_apart, direction, in_basis}
 use Rattle.zr_basis.proofs.Links.{free_under, lower_by_numbers, numbers_by_lower}
@@ -79,28 +79,28 @@ module _ (p : Program) (basis : ℕ → ℕ) (form : ℕ → ℕ → ℤ) (basic
   zero_before : (n : ℕ) → n ≤ l → AreLevel p basis form row k l n → (j : ℕ) → j < n → numbers j ≡ pos 0
   zero_before n h level j q = ⊎_elim (λ (f : (i : ℕ) × (i < p.rows) × (j ≡ basis i)). ap numbers f.2 ∙ level_zero (form f.0 l *ℤ form row k) (form f.0 k *ℤ form row l) (numbers (basis f.0)) (compares.on f.0 f.1) (level f.0 f.1 (let e = f.2 in omega (arith, e, q)))) (λ (out : (i : ℕ) → i < p.rows → j ≢ basis i). compares.off j (omega arith) (λ e. omega (arith, e, h, q, order)) (λ e. omega (arith, e, h, q)) out) (in_basis basis p.rows j)
 
-  lower : IsLeading (value_column p) numbers → IsRayBelow p basis form row k l
+  lower : IsLeading (value_column p) numbers → IsDirectionBelow p basis form row k l
   lower lead y e ray_k x d ray_l =
       numbers_by_lower p basis form basic row k l apart free_k free_l numbers compares y e ray_k x d ray_l lead
 
-  never_lower : (IsLeading (value_column p) numbers → ⊥) → IsRayBelow p basis form row k l → ⊥
+  never_lower : (IsLeading (value_column p) numbers → ⊥) → IsDirectionBelow p basis form row k l → ⊥
   never_lower never below = with_rays (direction p basis form basic k free_k) (direction p basis form basic l free_l)
     where
-      with_rays : (y : ℕ → ℤ) × (e : ℤ) × IsRay p basis form k y e → (x : ℕ → ℤ) × (d : ℤ) × IsRay p basis form l x d → ⊥
+      with_rays : (y : ℕ → ℤ) × (e : ℤ) × IsBasicDirection p basis form k y e → (x : ℕ → ℤ) × (d : ℤ) × IsBasicDirection p basis form l x d → ⊥
       with_rays (y, e, ray_k) (x, d, ray_l) =
           never (lower_by_numbers p basis form basic row k l apart free_k free_l numbers compares y e ray_k x d ray_l (below y e ray_k x d ray_l))
 
   -- level up to l, the direction of k is lower
-  pub below_at_last : AreLevel p basis form row k l l → IsRayBelow p basis form row k l
+  pub below_at_last : AreLevel p basis form row k l l → IsDirectionBelow p basis form row k l
   below_at_last level =
       lower (l, omega arith, zero_before l (omega arith) level, (let s = compares.second in omega (arith, ints, s, under_k)))
 
   -- and where the first row that isn't level says so
-  pub below_at : (i : ℕ) → i < p.rows → basis i < l → AreLevel p basis form row k l (basis i) → (form i k *ℤ form row l) <ℤ (form i l *ℤ form row k) → IsRayBelow p basis form row k l
+  pub below_at : (i : ℕ) → i < p.rows → basis i < l → AreLevel p basis form row k l (basis i) → (form i k *ℤ form row l) <ℤ (form i l *ℤ form row k) → IsDirectionBelow p basis form row k l
   below_at i h q level more =
       lower (basis i, omega arith, zero_before (basis i) (omega arith) level, (let s = compares.on i h in omega (arith, ints, s, more)))
 
-  pub not_below_at : (i : ℕ) → i < p.rows → basis i < l → AreLevel p basis form row k l (basis i) → (form i l *ℤ form row k) <ℤ (form i k *ℤ form row l) → IsRayBelow p basis form row k l → ⊥
+  pub not_below_at : (i : ℕ) → i < p.rows → basis i < l → AreLevel p basis form row k l (basis i) → (form i l *ℤ form row k) <ℤ (form i k *ℤ form row l) → IsDirectionBelow p basis form row k l → ⊥
   not_below_at i h q level less = never_lower never
     where
       never : IsLeading (value_column p) numbers → ⊥

@@ -8,7 +8,7 @@ pub mod Solved
 pub mod DualNumbers
 pub mod Dual
 pub mod Links
-pub mod Reduced
+pub mod Primitive
 pub mod Chosen
 pub mod Compared
 pub mod Least

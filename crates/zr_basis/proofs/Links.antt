@@ -5,9 +5,9 @@ use Rattle.std.proofs.lemmas.Bool.{cases_eq}
 use Rattle.zr_base.proofs.Ring.{spread}
 use Rattle.zr_base.proofs.Divisors.{mul_positive}
 use Rattle.zr_basis.specs.Programs.{Program}
-use Rattle.zr_basis.specs.BasicForms.{value_column, IsBasicForm}
+use Rattle.zr_basis.specs.BasicForms.{value_column, IsBasicForm, IsBasicDirection}
 use Rattle.zr_basis.specs.Vectors.{IsLeading, IsLower}
-use Rattle.zr_basis.specs.Dual.{IsRay, IsFree, IsDualDue, IsComparison, IsDualDueByNumbers}
+use Rattle.zr_basis.specs.Dual.{IsFree, IsDualDue, IsComparison, IsDualDueByNumbers}
 use Rattle.zr_basis.proofs.Signs.{zero_factor, above_factor, times_zero}
 use Rattle.zr_basis.proofs.Solved.{in_basis, direction}
 
@@ -47,16 +47,16 @@ compared_off x y d e rk rl h i =
     let s : (d *ℤ e) *ℤ pos 0 ≡ pos 0 = omega (arith, ints) in
     rw (h, i) (omega (arith, ints, z, t, s))
 
-module _ (p : Program) (basis : ℕ → ℕ) (form : ℕ → ℕ → ℤ) (basic : IsBasicForm p basis form) (row k l : ℕ) (apart : k ≢ l) (free_k : IsFree p basis k) (free_l : IsFree p basis l) (c : ℕ → ℤ) (compares : IsComparison p basis form row k l c) (y : ℕ → ℤ) (e : ℤ) (ray_k : IsRay p basis form k y e) (x : ℕ → ℤ) (d : ℤ) (ray_l : IsRay p basis form l x d) where
+module _ (p : Program) (basis : ℕ → ℕ) (form : ℕ → ℕ → ℤ) (basic : IsBasicForm p basis form) (row k l : ℕ) (apart : k ≢ l) (free_k : IsFree p basis k) (free_l : IsFree p basis l) (c : ℕ → ℤ) (compares : IsComparison p basis form row k l c) (y : ℕ → ℤ) (e : ℤ) (ray_k : IsBasicDirection p basis form k y e) (x : ℕ → ℤ) (d : ℤ) (ray_l : IsBasicDirection p basis form l x d) where
   gap : ℕ → ℤ
   gap j = x j *ℤ (e *ℤ neg_ℤ (form row k)) -ℤ y j *ℤ (d *ℤ neg_ℤ (form row l))
 
   both : (pos 0) <ℤ (d *ℤ e)
-  both = mul_positive d e ray_l.0 ray_k.0
+  both = mul_positive d e ray_l.positive ray_k.positive
 
   compared : (j : ℕ) → j < value_column p → (a : ℤ) × (b : ℤ) × ((pos 0) <ℤ a) × ((pos 0) <ℤ b) × (a *ℤ gap j ≡ b *ℤ c j)
   unfolding gap
-  compared j h = ⊎_elim (λ (g : (i : ℕ) × (i < p.rows) × (j ≡ basis i)). rw g.2 (form g.0 (basis g.0), d *ℤ e, basic.own g.0 (omega (arith, g.1)), both, compared_on (form g.0 (basis g.0)) (x (basis g.0)) (y (basis g.0)) (form g.0 l) (form g.0 k) d e (form row k) (form row l) (ray_l.1.on g.0 g.1) (ray_k.1.on g.0 g.1) ∙ ap (λ z. (d *ℤ e) *ℤ z) (sym (compares.on g.0 g.1)))) (λ (out : (i : ℕ) → i < p.rows → j ≢ basis i). (pos 1, d *ℤ e, omega (arith, ints), both, ⊎_elim (λ (s : j ≡ k). rw s (compared_first (x k) (y k) d e (form row k) (form row l) (ray_l.1.off k free_k.0 apart free_k.1) ray_k.1.raised ∙ ap (λ z. (d *ℤ e) *ℤ z) (sym compares.first))) (λ (a : j ≢ k). ⊎_elim (λ (s : j ≡ l). rw s (compared_second (x l) (y l) d e (form row k) (form row l) ray_l.1.raised (ray_k.1.off l free_l.0 (λ t. apart (sym t)) free_l.1) ∙ ap (λ z. (d *ℤ e) *ℤ z) (sym compares.second))) (λ (b : j ≢ l). compared_off (x j) (y j) d e (form row k) (form row l) (ray_l.1.off j h b out) (ray_k.1.off j h a out) ∙ ap (λ z. (d *ℤ e) *ℤ z) (sym (compares.off j h a b out))) (cases_eq j l)) (cases_eq j k))) (in_basis basis p.rows j)
+  compared j h = ⊎_elim (λ (g : (i : ℕ) × (i < p.rows) × (j ≡ basis i)). rw g.2 (form g.0 (basis g.0), d *ℤ e, basic.own g.0 (omega (arith, g.1)), both, compared_on (form g.0 (basis g.0)) (x (basis g.0)) (y (basis g.0)) (form g.0 l) (form g.0 k) d e (form row k) (form row l) (ray_l.on g.0 g.1) (ray_k.on g.0 g.1) ∙ ap (λ z. (d *ℤ e) *ℤ z) (sym (compares.on g.0 g.1)))) (λ (out : (i : ℕ) → i < p.rows → j ≢ basis i). (pos 1, d *ℤ e, omega (arith, ints), both, ⊎_elim (λ (s : j ≡ k). rw s (compared_first (x k) (y k) d e (form row k) (form row l) (ray_l.off k free_k.0 apart free_k.1) ray_k.raised ∙ ap (λ z. (d *ℤ e) *ℤ z) (sym compares.first))) (λ (a : j ≢ k). ⊎_elim (λ (s : j ≡ l). rw s (compared_second (x l) (y l) d e (form row k) (form row l) ray_l.raised (ray_k.off l free_l.0 (λ t. apart (sym t)) free_l.1) ∙ ap (λ z. (d *ℤ e) *ℤ z) (sym compares.second))) (λ (b : j ≢ l). compared_off (x j) (y j) d e (form row k) (form row l) (ray_l.off j h b out) (ray_k.off j h a out) ∙ ap (λ z. (d *ℤ e) *ℤ z) (sym (compares.off j h a b out))) (cases_eq j l)) (cases_eq j k))) (in_basis basis p.rows j)
 
   flipped : (j : ℕ) → (a : ℤ) × (b : ℤ) × ((pos 0) <ℤ a) × ((pos 0) <ℤ b) × (a *ℤ gap j ≡ b *ℤ c j) → (a : ℤ) × (b : ℤ) × ((pos 0) <ℤ a) × ((pos 0) <ℤ b) × (a *ℤ c j ≡ b *ℤ gap j)
   flipped j (a, b, p, q, e) = (b, a, q, p, sym e)
@@ -80,8 +80,8 @@ pub self_lower : (n : ℕ) (x y : ℕ → ℤ) (a b : ℤ) → ((k : ℕ) → k 
 self_lower n x y a b none (k, h, before, above) = let z = none k h in omega (arith, ints, z, above)
 
 -- two directions of one column
-pub same_ray : (p : Program) (basis : ℕ → ℕ) (form : ℕ → ℕ → ℤ) → IsBasicForm p basis form → (col : ℕ) (r : ℤ) (x y : ℕ → ℤ) (d e : ℤ) → IsRay p basis form col x d → IsRay p basis form col y e → (j : ℕ) → j < value_column p → y j *ℤ (d *ℤ r) -ℤ x j *ℤ (e *ℤ r) ≡ pos 0
-same_ray p basis form basic col r x y d e first second j h = ⊎_elim (λ (g : (i : ℕ) × (i < p.rows) × (j ≡ basis i)). rw g.2 (zero_factor (form g.0 (basis g.0)) (y (basis g.0) *ℤ (d *ℤ r) -ℤ x (basis g.0) *ℤ (e *ℤ r)) (basic.own g.0 (omega (arith, g.1))) (on (form g.0 (basis g.0)) (x (basis g.0)) (y (basis g.0)) (form g.0 col) (first.1.on g.0 g.1) (second.1.on g.0 g.1)))) (λ (out : (i : ℕ) → i < p.rows → j ≢ basis i). ⊎_elim (λ (s : j ≡ col). rw (s, first.1.raised, second.1.raised) (simp spread (omega (arith, ints)))) (λ (a : j ≢ col). rw (first.1.off j h a out, second.1.off j h a out) (omega (arith, ints))) (cases_eq j col)) (in_basis basis p.rows j)
+pub same_ray : (p : Program) (basis : ℕ → ℕ) (form : ℕ → ℕ → ℤ) → IsBasicForm p basis form → (col : ℕ) (r : ℤ) (x y : ℕ → ℤ) (d e : ℤ) → IsBasicDirection p basis form col x d → IsBasicDirection p basis form col y e → (j : ℕ) → j < value_column p → y j *ℤ (d *ℤ r) -ℤ x j *ℤ (e *ℤ r) ≡ pos 0
+same_ray p basis form basic col r x y d e first second j h = ⊎_elim (λ (g : (i : ℕ) × (i < p.rows) × (j ≡ basis i)). rw g.2 (zero_factor (form g.0 (basis g.0)) (y (basis g.0) *ℤ (d *ℤ r) -ℤ x (basis g.0) *ℤ (e *ℤ r)) (basic.own g.0 (omega (arith, g.1))) (on (form g.0 (basis g.0)) (x (basis g.0)) (y (basis g.0)) (form g.0 col) (first.on g.0 g.1) (second.on g.0 g.1)))) (λ (out : (i : ℕ) → i < p.rows → j ≢ basis i). ⊎_elim (λ (s : j ≡ col). rw (s, first.raised, second.raised) (simp spread (omega (arith, ints)))) (λ (a : j ≢ col). rw (first.off j h a out, second.off j h a out) (omega (arith, ints))) (cases_eq j col)) (in_basis basis p.rows j)
   where
     on : (own u v f : ℤ) → own *ℤ u ≡ neg_ℤ f *ℤ d → own *ℤ v ≡ neg_ℤ f *ℤ e → own *ℤ (v *ℤ (d *ℤ r) -ℤ u *ℤ (e *ℤ r)) ≡ pos 0
     on own u v f h i =
@@ -93,21 +93,21 @@ same_ray p basis form basic col r x y d e first second j h = ⊎_elim (λ (g : (
 pub due_by_numbers : (p : Program) (basis : ℕ → ℕ) (form : ℕ → ℕ → ℤ) → IsBasicForm p basis form → (row col : ℕ) → IsDualDueByNumbers p basis form row col → IsDualDue p basis form row col
 due_by_numbers p basis form basic row col due = with_ray (direction p basis form basic col (due.column, free_under p basis form basic row col due.below due.under))
   where
-    with_ray : (x : ℕ → ℤ) × (d : ℤ) × IsRay p basis form col x d → IsDualDue p basis form row col
+    with_ray : (x : ℕ → ℤ) × (d : ℤ) × IsBasicDirection p basis form col x d → IsDualDue p basis form row col
     with_ray (x, d, ray) = record {
       below = due.below;
       column = due.column;
       right = due.right;
       under = due.under;
-      ray = x;
+      direction = x;
       over = d;
-      is_ray = ray;
+      is_direction = ray;
       least = λ k free under y e ray_k lower. ⊎_elim (λ (s : k ≡ col). own_column k s y e ray_k lower) (λ (a : k ≢ col). other k a free under y e ray_k lower (due.least k free.0 a under)) (cases_eq k col);
     }
       where
-        own_column : (k : ℕ) → k ≡ col → (y : ℕ → ℤ) (e : ℤ) → IsRay p basis form k y e → IsLower (value_column p) y (e *ℤ neg_ℤ (form row k)) x (d *ℤ neg_ℤ (form row col)) → ⊥
-        own_column k s y e ray_k lower = let ray_c : IsRay p basis form col y e = rw (← s) ray_k in self_lower (value_column p) y x (e *ℤ neg_ℤ (form row col)) (d *ℤ neg_ℤ (form row col)) (same_ray p basis form basic col (neg_ℤ (form row col)) y x e d ray_c ray) (subst (λ q. IsLower (value_column p) y (e *ℤ neg_ℤ (form row q)) x (d *ℤ neg_ℤ (form row col))) s lower)
+        own_column : (k : ℕ) → k ≡ col → (y : ℕ → ℤ) (e : ℤ) → IsBasicDirection p basis form k y e → IsLower (value_column p) y (e *ℤ neg_ℤ (form row k)) x (d *ℤ neg_ℤ (form row col)) → ⊥
+        own_column k s y e ray_k lower = let ray_c : IsBasicDirection p basis form col y e = rw (← s) ray_k in self_lower (value_column p) y x (e *ℤ neg_ℤ (form row col)) (d *ℤ neg_ℤ (form row col)) (same_ray p basis form basic col (neg_ℤ (form row col)) y x e d ray_c ray) (subst (λ q. IsLower (value_column p) y (e *ℤ neg_ℤ (form row q)) x (d *ℤ neg_ℤ (form row col))) s lower)
 
-        other : (k : ℕ) → k ≢ col → IsFree p basis k → form row k <ℤ (pos 0) → (y : ℕ → ℤ) (e : ℤ) → IsRay p basis form k y e → IsLower (value_column p) y (e *ℤ neg_ℤ (form row k)) x (d *ℤ neg_ℤ (form row col)) → (c : ℕ → ℤ) × IsComparison p basis form row k col c × (IsLeading (value_column p) c → ⊥) → ⊥
+        other : (k : ℕ) → k ≢ col → IsFree p basis k → form row k <ℤ (pos 0) → (y : ℕ → ℤ) (e : ℤ) → IsBasicDirection p basis form k y e → IsLower (value_column p) y (e *ℤ neg_ℤ (form row k)) x (d *ℤ neg_ℤ (form row col)) → (c : ℕ → ℤ) × IsComparison p basis form row k col c × (IsLeading (value_column p) c → ⊥) → ⊥
         other k a free under y e ray_k lower (c, compares, never) =
             never (lower_by_numbers p basis form basic row k col a free (due.column, free_under p basis form basic row col due.below due.under) c compares y e ray_k x d ray lower)

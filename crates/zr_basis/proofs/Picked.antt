@@ -4,7 +4,7 @@ use Rattle.std.proofs.lemmas.Int.{ints}
 use Rattle.zr_basis.specs.Programs.{Program}
 use Rattle.zr_basis.specs.BasicForms.{right_column, value_column, IsBasicForm}
 use Rattle.zr_basis.specs.Primal.{vector, place, IsRowBelow, IsPrimalDue}
-use Rattle.zr_basis.specs.Dual.{IsRayBelow, IsDualDue}
+use Rattle.zr_basis.specs.Dual.{IsDirectionBelow, IsDualDue}
 use Rattle.zr_basis.proofs.Signs.{side, sign}
 use Rattle.zr_basis.proofs.Vectors.{lower_apart, lower_trans}
 use Rattle.zr_basis.proofs.Chosen as AChosen
@@ -69,15 +69,15 @@ module _ (p : Program) (basis : ℕ → ℕ) (form : ℕ → ℕ → ℤ) (basic
   abbrev pub IsUnder : ℕ → Type 0
   IsUnder k = (k < value_column p) × (form row k <ℤ (pos 0))
 
-  pub column_skipped : (k : ℕ) (best : Option ℕ) → (pos 0) ≤ℤ form row k → IsBestSoFar IsUnder (IsRayBelow p basis form row) k best → IsBestSoFar IsUnder (IsRayBelow p basis form row) (k + 1) best
+  pub column_skipped : (k : ℕ) (best : Option ℕ) → (pos 0) ≤ℤ form row k → IsBestSoFar IsUnder (IsDirectionBelow p basis form row) k best → IsBestSoFar IsUnder (IsDirectionBelow p basis form row) (k + 1) best
   column_skipped k best high =
-      one_unmarked IsUnder (IsRayBelow p basis form row) k best (λ m. let under = m.1 in omega (arith, ints, high, under))
+      one_unmarked IsUnder (IsDirectionBelow p basis form row) k best (λ m. let under = m.1 in omega (arith, ints, high, under))
 
-  pub column_taken : (k : ℕ) (best : Option ℕ) (result : ℕ) → IsUnder k → IsBestSoFar IsUnder (IsRayBelow p basis form row) k best → IsBetter (IsRayBelow p basis form row) best k result → IsLeast IsUnder (IsRayBelow p basis form row) (k + 1) result
+  pub column_taken : (k : ℕ) (best : Option ℕ) (result : ℕ) → IsUnder k → IsBestSoFar IsUnder (IsDirectionBelow p basis form row) k best → IsBetter (IsDirectionBelow p basis form row) best k result → IsLeast IsUnder (IsDirectionBelow p basis form row) (k + 1) result
   column_taken =
-      one_marked IsUnder (IsRayBelow p basis form row) (AChosen.chain p basis form basic row below) (AChosen.self p basis form basic row below)
+      one_marked IsUnder (IsDirectionBelow p basis form row) (AChosen.chain p basis form basic row below) (AChosen.self p basis form basic row below)
 
-  pub column_found : (best : Option ℕ) → form row (right_column p) <ℤ (pos 0) → IsBestSoFar IsUnder (IsRayBelow p basis form row) (value_column p) best → MatchOption best ((j : ℕ) → j < value_column p → (pos 0) ≤ℤ form row j) (IsDualDue p basis form row)
+  pub column_found : (best : Option ℕ) → form row (right_column p) <ℤ (pos 0) → IsBestSoFar IsUnder (IsDirectionBelow p basis form row) (value_column p) best → MatchOption best ((j : ℕ) → j < value_column p → (pos 0) ≤ℤ form row j) (IsDualDue p basis form row)
   column_found None right none = λ j h. not_under (form row j) (λ b. none j h (h, b))
   column_found (Some col) right first =
       AChosen.due_if_least p basis form basic row below col first.marked right first.least

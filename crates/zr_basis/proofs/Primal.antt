@@ -9,14 +9,15 @@ use Rattle.zr_basis.specs.Programs.{Program}
 use Rattle.zr_basis.specs.BasicForms.{value_column, right_column, IsBasicForm}
 use Rattle.zr_basis.specs.Bases.{Exchanges}
 use Rattle.zr_basis.specs.Vectors.{IsLeading}
-use Rattle.zr_basis.specs.Stages.{Determines, Stage, IsFeasibleForm}
-use Rattle.zr_basis.specs.Primal.{place, vector, ArePositive, IsPrimalDue, Drops}
+use Rattle.zr_basis.specs.Stages.{Stage, IsFeasibleForm}
+use Rattle.zr_basis.specs.Primal.{place, vector, AreVectorsPositive, IsPrimalDue, Drops}
 use Rattle.zr_basis.proofs.Signs.{sign, side, zero_factor, above_apart, times_zero}
 use Rattle.zr_basis.proofs.Vectors.{IsNought, in_proportion, leading_sum, same_leading, three_ways, times_leading}
+use Rattle.zr_basis.proofs.Unique.{determined}
 use Rattle.zr_basis.proofs.Turned.{turned, turned_own, own_after, own_here}
 
 -- at a basis with no right side below zero the vectors that are read by it are positive
-pub positive_at_start : (p : Program) (basis : ℕ → ℕ) (form : ℕ → ℕ → ℤ) → IsBasicForm p basis form → IsFeasibleForm p form → ArePositive p basis form
+pub positive_at_start : (p : Program) (basis : ℕ → ℕ) (form : ℕ → ℕ → ℤ) → IsBasicForm p basis form → IsFeasibleForm p form → AreVectorsPositive p basis form
 positive_at_start p basis form basic feasible i h = ⊎_elim (λ (a : (pos 0) <ℤ form i (right_column p)). (0, omega arith, (λ j q. absurd (omega arith)), a)) (λ (r : (form i (right_column p) ≡ pos 0) ⊎ (form i (right_column p) <ℤ (pos 0))). ⊎_elim (λ (z : form i (right_column p) ≡ pos 0). (suc i, omega arith, before z, basic.own i (omega arith))) (λ (n : form i (right_column p) <ℤ (pos 0)). absurd (let f = feasible i h in omega (arith, ints, f, n))) r) (sign (form i (right_column p)))
   where
     before : form i (right_column p) ≡ pos 0 → (j : ℕ) → j < suc i → vector p basis (form i) j ≡ pos 0
@@ -27,7 +28,7 @@ leading_first : (n : ℕ) (v : ℕ → ℤ) → IsLeading n v → (pos 0) ≤ℤ
 leading_first n v lead = ⊎_elim (λ (h : 0 < lead.0). let z = lead.2 0 h in omega (arith, ints, z)) (λ (h : lead.0 ≤ 0). let e : lead.0 ≡ 0 = omega arith in let z = ap v e in let a = lead.3 in omega (arith, ints, z, a)) (side 0 lead.0)
 
 -- no right side is below zero where the vectors are positive
-pub feasible_if : (p : Program) (start : ℕ → ℕ) (form : ℕ → ℕ → ℤ) → ArePositive p start form → IsFeasibleForm p form
+pub feasible_if : (p : Program) (start : ℕ → ℕ) (form : ℕ → ℕ → ℤ) → AreVectorsPositive p start form → IsFeasibleForm p form
 feasible_if p start form positive i h = leading_first (p.rows + 1) (vector p start (form i)) (positive i h)
 
 apart_negated : (x f g : ℤ) → (pos 0) <ℤ x → neg_ℤ (x *ℤ f -ℤ g) ≡ g -ℤ x *ℤ f
@@ -42,7 +43,7 @@ swapped fr f fi r = let a = *ℤ_comm r fi in let b = *ℤ_comm f fr in omega (a
 fallen : (own fr m a f fv r : ℤ) → (own *ℤ fr) *ℤ m ≡ a *ℤ (fr *ℤ f -ℤ fv *ℤ r) → fr *ℤ (f *ℤ a -ℤ m *ℤ own) ≡ (a *ℤ fv) *ℤ r
 fallen own fr m a f fv r e = let g = simp spread at e in simp spread (omega (arith, ints, g))
 
-module _ (p : Program) (s : Stage p) (basis : ℕ → ℕ) (form : ℕ → ℕ → ℤ) (basic : IsBasicForm p basis form) (determines : Determines p basis) (positive : ArePositive p s.basis form) (row col : ℕ) (due : IsPrimalDue p s.basis form row col) (next : ℕ → ℕ) (exchange : Exchanges basis row col next) (made : ℕ → ℕ → ℤ) (after : IsBasicForm p next made) where
+module _ (p : Program) (s : Stage p) (basis : ℕ → ℕ) (form : ℕ → ℕ → ℤ) (basic : IsBasicForm p basis form) (positive : AreVectorsPositive p s.basis form) (row col : ℕ) (due : IsPrimalDue p s.basis form row col) (next : ℕ → ℕ) (exchange : Exchanges basis row col next) (made : ℕ → ℕ → ℤ) (after : IsBasicForm p next made) where
   inside : (k : ℕ) → k < p.rows + 1 → place p s.basis k ≤ right_column p
   inside zero h = omega arith
   inside (suc i) h = let q = s.basic.columns i (omega arith) in omega (arith, q)
@@ -52,7 +53,7 @@ module _ (p : Program) (s : Stage p) (basis : ℕ → ℕ) (form : ℕ → ℕ �
 
   -- the vector of a row isn't zero
   apart : (i : ℕ) → i < p.rows → IsNought (p.rows + 1) (vector p s.basis (made i)) → ⊥
-  apart i h none = above_apart (made i (next i)) (after.own i (omega arith)) (s.determines (made i) (after.combination i (omega arith)) at (next i) (let q = after.columns i h in omega (arith, q)))
+  apart i h none = above_apart (made i (next i)) (after.own i (omega arith)) (determined p s.basis s.form s.basic (made i) (after.combination i (omega arith)) at (next i) (let q = after.columns i h in omega (arith, q)))
     where
       at : (m : ℕ) → m ≤ p.rows → made i (s.basis m) ≡ pos 0
       at m q = ⊎_elim (λ (b : m < p.rows). none (suc m) (omega arith)) (λ (b : p.rows ≤ m). let e : m ≡ p.rows = omega arith in ap (λ z. made i (s.basis z)) e ∙ ap (made i) (s.basic.value ∙ sym after.value) ∙ after.other i p.rows (omega arith) (omega arith) (λ (t : i ≡ p.rows). omega arith)) (side m p.rows)
@@ -62,11 +63,11 @@ module _ (p : Program) (s : Stage p) (basis : ℕ → ℕ) (form : ℕ → ℕ �
 
   at_mix : (i : ℕ) → i ≤ p.rows → i ≢ row → (k : ℕ) → k < p.rows + 1 → (form i (basis i) *ℤ form row col) *ℤ vector p s.basis (made i) k ≡ made i (basis i) *ℤ mix i k
   unfolding mix
-  at_mix i h a k q = turned p basis form basic determines row col due.below due.column next exchange made after i h a (place p s.basis k) (inside k q)
+  at_mix i h a k q = turned p basis form basic row col due.below due.column next exchange made after i h a (place p s.basis k) (inside k q)
 
   made_if : (i : ℕ) → i < p.rows → i ≢ row → IsLeading (p.rows + 1) (mix i) → IsLeading (p.rows + 1) (vector p s.basis (made i))
   made_if i h a lead =
-      in_proportion (p.rows + 1) (vector p s.basis (made i)) (mix i) (form i (basis i) *ℤ form row col) (made i (basis i)) (mul_positive (form i (basis i)) (form row col) (basic.own i (omega arith)) due.above) (own_after p basis form basic determines row col due.below due.column next exchange made after i (omega arith) a) (at_mix i (omega arith) a) lead
+      in_proportion (p.rows + 1) (vector p s.basis (made i)) (mix i) (form i (basis i) *ℤ form row col) (made i (basis i)) (mul_positive (form i (basis i)) (form row col) (basic.own i (omega arith)) due.above) (own_after p basis form basic row col due.below due.column next exchange made after i (omega arith) a) (at_mix i (omega arith) a) lead
 
   mix_leads : (i : ℕ) → i < p.rows → i ≢ row → IsLeading (p.rows + 1) (mix i)
   unfolding mix
@@ -85,15 +86,15 @@ module _ (p : Program) (s : Stage p) (basis : ℕ → ℕ) (form : ℕ → ℕ �
       above b = ⊎_elim (λ (l : IsLeading (p.rows + 1) (mix i)). l) (λ (r : IsNought (p.rows + 1) (mix i) ⊎ IsLeading (p.rows + 1) (λ k. neg_ℤ (mix i k))). ⊎_elim (λ (none : IsNought (p.rows + 1) (mix i)). absurd (apart i h (λ k q. zero_factor (form i (basis i) *ℤ form row col) (vector p s.basis (made i) k) (mul_positive (form i (basis i)) (form row col) (basic.own i (omega arith)) due.above) (at_mix i (omega arith) a k q ∙ ap (λ z. made i (basis i) *ℤ z) (none k q) ∙ times_zero (made i (basis i)))))) (λ (l : IsLeading (p.rows + 1) (λ k. neg_ℤ (mix i k))). absurd (due.least i h b (same_leading (p.rows + 1) (λ k. vector p s.basis (form row) k *ℤ form i col -ℤ vector p s.basis (form i) k *ℤ form row col) (λ k. neg_ℤ (mix i k)) (λ k q. swapped (form row col) (vector p s.basis (form i) k) (form i col) (vector p s.basis (form row) k)) l))) r) (three_ways (p.rows + 1) (mix i))
 
   -- the rows' vectors stay positive
-  pub primal_keeps : ArePositive p s.basis made
+  pub primal_keeps : AreVectorsPositive p s.basis made
   primal_keeps i h = ⊎_elim (λ (e : i ≡ row). rw e here) (λ (a : i ≢ row). made_if i h a (mix_leads i h a)) (cases_eq i row)
     where
       here : IsLeading (p.rows + 1) (vector p s.basis (made row))
-      here = in_proportion (p.rows + 1) (vector p s.basis (made row)) (vector p s.basis (form row)) (form row col) (made row col) due.above (own_here p basis form basic determines row col due.below due.column next exchange made after) (λ k q. turned_own p basis form basic determines row col due.below due.column next exchange made after (place p s.basis k) (inside k q)) (positive row due.below)
+      here = in_proportion (p.rows + 1) (vector p s.basis (made row)) (vector p s.basis (form row)) (form row col) (made row col) due.above (own_here p basis form basic row col due.below due.column next exchange made after) (λ k q. turned_own p basis form basic row col due.below due.column next exchange made after (place p s.basis k) (inside k q)) (positive row due.below)
 
   -- the value's vector falls
   pub primal_drops : Drops p s.basis form made
-  primal_drops = rw (← basic.value) (in_proportion (p.rows + 1) (λ k. vector p s.basis (form p.rows) k *ℤ made p.rows (basis p.rows) -ℤ vector p s.basis (made p.rows) k *ℤ form p.rows (basis p.rows)) (vector p s.basis (form row)) (form row col) (made p.rows (basis p.rows) *ℤ form p.rows col) due.above (mul_positive (made p.rows (basis p.rows)) (form p.rows col) (own_after p basis form basic determines row col due.below due.column next exchange made after p.rows (omega arith) last) due.falls) (λ k q. fallen (form p.rows (basis p.rows)) (form row col) (vector p s.basis (made p.rows) k) (made p.rows (basis p.rows)) (vector p s.basis (form p.rows) k) (form p.rows col) (vector p s.basis (form row) k) (turned p basis form basic determines row col due.below due.column next exchange made after p.rows (omega arith) last (place p s.basis k) (inside k q))) (positive row due.below))
+  primal_drops = rw (← basic.value) (in_proportion (p.rows + 1) (λ k. vector p s.basis (form p.rows) k *ℤ made p.rows (basis p.rows) -ℤ vector p s.basis (made p.rows) k *ℤ form p.rows (basis p.rows)) (vector p s.basis (form row)) (form row col) (made p.rows (basis p.rows) *ℤ form p.rows col) due.above (mul_positive (made p.rows (basis p.rows)) (form p.rows col) (own_after p basis form basic row col due.below due.column next exchange made after p.rows (omega arith) last) due.falls) (λ k q. fallen (form p.rows (basis p.rows)) (form row col) (vector p s.basis (made p.rows) k) (made p.rows (basis p.rows)) (vector p s.basis (form p.rows) k) (form p.rows col) (vector p s.basis (form row) k) (turned p basis form basic row col due.below due.column next exchange made after p.rows (omega arith) last (place p s.basis k) (inside k q))) (positive row due.below))
     where
       last : p.rows ≢ row
       last e = let b = due.below in omega (arith, e, b)

@@ -6,12 +6,12 @@ use Rattle.std.proofs.Math.IntN.{*ℤ_comm}
 use Rattle.zr_base.proofs.Ring.{spread}
 use Rattle.zr_base.proofs.Divisors.{mul_positive}
 use Rattle.zr_basis.specs.Programs.{Program}
-use Rattle.zr_basis.specs.BasicForms.{value_column, right_column}
+use Rattle.zr_basis.specs.BasicForms.{value_column, right_column, IsBasicSolution}
 use Rattle.zr_basis.specs.Stages.{Stage, IsShort, IsFeasibleForm}
 use Rattle.zr_basis.specs.Bases.{IsBasis, IsOtherBasis}
 use Rattle.zr_basis.specs.Choices.{choose}
-use Rattle.zr_basis.specs.Primal.{place, vector, ArePositive, Drops}
-use Rattle.zr_basis.specs.Dual.{AreRaysPositive, IsAt, Rises}
+use Rattle.zr_basis.specs.Primal.{place, vector, AreVectorsPositive, Drops}
+use Rattle.zr_basis.specs.Dual.{AreDirectionsPositive, Rises}
 use Rattle.zr_basis.specs.Runs.{Falls, AreFalling, IsDualStep, IsPrimalStep, IsRun}
 use Rattle.zr_basis.proofs.Signs.{sign, side}
 use Rattle.zr_basis.proofs.Vectors.{in_proportion, lower_trans, lower_apart}
@@ -44,7 +44,7 @@ rescaled : (y v z d e g : ℤ) → y *ℤ e ≡ v *ℤ d → e *ℤ (z *ℤ d -�
 rescaled y v z d e g h = let k = simp spread at (ap (λ q. q *ℤ g) h) in simp spread (omega (arith, ints, k))
 
 pub rises_trans : (p : Program) (one two three : Stage p) → Rises p one.basis one.form two.basis two.form → Rises p two.basis two.form three.basis three.form → Rises p one.basis one.form three.basis three.form
-rises_trans p one two three (x, d, y, e, at, to, lower) (v, c, z, g, from, end, higher) = (x, d, z, g, at, end, lower_trans (value_column p) x y z d e g at.0 to.0 end.0 lower (in_proportion (value_column p) (λ j. z j *ℤ e -ℤ y j *ℤ g) (λ j. z j *ℤ c -ℤ v j *ℤ g) c e from.0 to.0 (λ j h. rescaled (y j) (v j) (z j) e c g (same_solution p two.basis two.basis two.form two.form two.basic two.determines two.basic (self p two.basis) y v e c to from j h)) higher))
+rises_trans p one two three (x, d, y, e, at, to, lower) (v, c, z, g, from, end, higher) = (x, d, z, g, at, end, lower_trans (value_column p) x y z d e g at.positive to.positive end.positive lower (in_proportion (value_column p) (λ j. z j *ℤ e -ℤ y j *ℤ g) (λ j. z j *ℤ c -ℤ v j *ℤ g) c e from.positive to.positive (λ j h. rescaled (y j) (v j) (z j) e c g (same_solution p two.basis two.basis two.form two.form two.basic two.basic (self p two.basis) y v e c to from j h)) higher))
 
 own_value : (p : Program) (s : Stage p) → (pos 0) <ℤ s.form p.rows (value_column p)
 own_value p s = rw (← s.basic.value) (s.basic.own p.rows (omega arith))
@@ -71,7 +71,7 @@ short_alike : (p : Program) (one two : Stage p) → HaveSameColumns p one.basis 
 short_alike p one two same short feasible = found (same.0 short.0 (omega (arith, short.1)))
   where
     found : (k : ℕ) × (k ≤ p.rows) × (one.basis short.0 ≡ two.basis k) → ⊥
-    found g = ⊎_elim (λ (b : g.0 < p.rows). let f = feasible g.0 b in let s = sign_kept (two.form g.0 (two.basis g.0)) (one.form short.0 (right_column p)) (one.form short.0 (one.basis short.0)) (two.form g.0 (right_column p)) (two.basic.own g.0 g.1) (one.basic.own short.0 (omega (arith, short.1))) (AUnique.in_proportion p one.basis two.basis one.form two.form one.basic one.determines two.basic same short.0 g.0 (omega (arith, short.1)) g.1 g.2 (right_column p) (omega arith)) short.2 in omega (arith, ints, f, s)) (λ (b : p.rows ≤ g.0). let t : g.0 ≡ p.rows = omega (arith, g.1, b) in let u = g.2 ∙ ap two.basis t ∙ two.basic.value in let c = one.basic.columns short.0 short.1 in omega (arith, u, c)) (side g.0 p.rows)
+    found g = ⊎_elim (λ (b : g.0 < p.rows). let f = feasible g.0 b in let s = sign_kept (two.form g.0 (two.basis g.0)) (one.form short.0 (right_column p)) (one.form short.0 (one.basis short.0)) (two.form g.0 (right_column p)) (two.basic.own g.0 g.1) (one.basic.own short.0 (omega (arith, short.1))) (AUnique.in_proportion p one.basis two.basis one.form two.form one.basic two.basic same short.0 g.0 (omega (arith, short.1)) g.1 g.2 (right_column p) (omega arith)) short.2 in omega (arith, ints, f, s)) (λ (b : p.rows ≤ g.0). let t : g.0 ≡ p.rows = omega (arith, g.1, b) in let u = g.2 ∙ ap two.basis t ∙ two.basic.value in let c = one.basic.columns short.0 short.1 in omega (arith, u, c)) (side g.0 p.rows)
 
 inside : (p : Program) (s : Stage p) (k : ℕ) → k < p.rows + 1 → place p s.basis k ≤ right_column p
 inside p s zero h = omega arith
@@ -84,11 +84,11 @@ turned_about m f a b e =
     omega (arith, ints, u, v, e)
 
 drops_apart : (p : Program) (start one two : Stage p) → HaveSameColumns p one.basis two.basis → Drops p start.basis one.form two.form → ⊥
-drops_apart p start one two same lower = lower_apart (p.rows + 1) (vector p start.basis (two.form p.rows)) (vector p start.basis (one.form p.rows)) (two.form p.rows (value_column p)) (one.form p.rows (value_column p)) (λ k h. turned_about (vector p start.basis (two.form p.rows) k) (vector p start.basis (one.form p.rows) k) (two.form p.rows (value_column p)) (one.form p.rows (value_column p)) (ap (λ c. two.form p.rows c *ℤ vector p start.basis (one.form p.rows) k) (sym two.basic.value) ∙ AUnique.in_proportion p one.basis two.basis one.form two.form one.basic one.determines two.basic same p.rows p.rows (omega arith) (omega arith) (one.basic.value ∙ sym two.basic.value) (place p start.basis k) (inside p start k h) ∙ ap (λ c. one.form p.rows c *ℤ vector p start.basis (two.form p.rows) k) one.basic.value)) lower
+drops_apart p start one two same lower = lower_apart (p.rows + 1) (vector p start.basis (two.form p.rows)) (vector p start.basis (one.form p.rows)) (two.form p.rows (value_column p)) (one.form p.rows (value_column p)) (λ k h. turned_about (vector p start.basis (two.form p.rows) k) (vector p start.basis (one.form p.rows) k) (two.form p.rows (value_column p)) (one.form p.rows (value_column p)) (ap (λ c. two.form p.rows c *ℤ vector p start.basis (one.form p.rows) k) (sym two.basic.value) ∙ AUnique.in_proportion p one.basis two.basis one.form two.form one.basic two.basic same p.rows p.rows (omega arith) (omega arith) (one.basic.value ∙ sym two.basic.value) (place p start.basis k) (inside p start k h) ∙ ap (λ c. one.form p.rows c *ℤ vector p start.basis (two.form p.rows) k) one.basic.value)) lower
 
 rises_apart : (p : Program) (one two : Stage p) → HaveSameColumns p one.basis two.basis → Rises p one.basis one.form two.basis two.form → ⊥
 rises_apart p one two same (x, d, y, e, at, to, lower) =
-    lower_apart (value_column p) x y d e (same_solution p one.basis two.basis one.form two.form one.basic one.determines two.basic same x y d e at to) lower
+    lower_apart (value_column p) x y d e (same_solution p one.basis two.basis one.form two.form one.basic two.basic same x y d e at to) lower
 
 -- a stage that falls from another hasn't its columns
 pub falls_apart : (p : Program) (start one two : Stage p) → HaveSameColumns p one.basis two.basis → Falls p start one two → ⊥
@@ -107,23 +107,23 @@ no_two p start last stage falling i j h q same =
 
 -- a run by the rules
 module _ (p : Program) (turn last : ℕ) (stage : ℕ → Stage p) (run : IsRun p turn last stage) where
-  rays : (n : ℕ) → n ≤ last → n ≤ turn → AreRaysPositive p (stage n).basis (stage n).form
+  rays : (n : ℕ) → n ≤ last → n ≤ turn → AreDirectionsPositive p (stage n).basis (stage n).form
   rays zero h q = positive_at_slacks p (stage 0).basis (stage 0).form run.slacks
   rays (suc n) h q = next (rays n (omega arith) (omega arith)) (run.duals n (omega arith) (omega arith))
     where
-      next : AreRaysPositive p (stage n).basis (stage n).form → IsDualStep p (stage n) (stage (suc n)) → AreRaysPositive p (stage (suc n)).basis (stage (suc n)).form
+      next : AreDirectionsPositive p (stage n).basis (stage n).form → IsDualStep p (stage n) (stage (suc n)) → AreDirectionsPositive p (stage (suc n)).basis (stage (suc n)).form
       next before (row, col, due, exchange) =
-          dual_keeps p (stage n).basis (stage n).form (stage n).basic (stage n).determines before row col due (stage (suc n)).basis exchange (stage (suc n)).form (stage (suc n)).basic
+          dual_keeps p (stage n).basis (stage n).form (stage n).basic before row col due (stage (suc n)).basis exchange (stage (suc n)).form (stage (suc n)).basic
 
-  vectors : (n : ℕ) → turn + n ≤ last → ArePositive p (stage turn).basis (stage (turn + n)).form
+  vectors : (n : ℕ) → turn + n ≤ last → AreVectorsPositive p (stage turn).basis (stage (turn + n)).form
   vectors zero h = let e : turn + 0 ≡ turn = omega arith in rw e (positive_at_start p (stage turn).basis (stage turn).form (stage turn).basic (run.feasible (omega arith)))
   vectors (suc n) h = let e : turn + suc n ≡ suc (turn + n) = omega arith in rw e (next (vectors n (omega arith)) (run.primals (turn + n) (omega arith) (omega arith)))
     where
-      next : ArePositive p (stage turn).basis (stage (turn + n)).form → IsPrimalStep p (stage turn) (stage (turn + n)) (stage (suc (turn + n))) → ArePositive p (stage turn).basis (stage (suc (turn + n))).form
+      next : AreVectorsPositive p (stage turn).basis (stage (turn + n)).form → IsPrimalStep p (stage turn) (stage (turn + n)) (stage (suc (turn + n))) → AreVectorsPositive p (stage turn).basis (stage (suc (turn + n))).form
       next before (row, col, due, exchange) =
-          primal_keeps p (stage turn) (stage (turn + n)).basis (stage (turn + n)).form (stage (turn + n)).basic (stage (turn + n)).determines before row col due (stage (suc (turn + n))).basis exchange (stage (suc (turn + n))).form (stage (suc (turn + n))).basic
+          primal_keeps p (stage turn) (stage (turn + n)).basis (stage (turn + n)).form (stage (turn + n)).basic before row col due (stage (suc (turn + n))).basis exchange (stage (suc (turn + n))).form (stage (suc (turn + n))).basic
 
-  positive_from : (n : ℕ) → turn ≤ n → n ≤ last → ArePositive p (stage turn).basis (stage n).form
+  positive_from : (n : ℕ) → turn ≤ n → n ≤ last → AreVectorsPositive p (stage turn).basis (stage n).form
   positive_from n h q = let e : n ≡ turn + (n - turn) = omega arith in rw e (vectors (n - turn) (omega arith))
 
   -- from the turn on no right side is below zero
@@ -136,15 +136,15 @@ module _ (p : Program) (turn last : ℕ) (stage : ℕ → Stage p) (run : IsRun 
       by : IsDualStep p (stage n) (stage (suc n)) → Falls p (stage turn) (stage n) (stage (suc n))
       by (row, col, due, exchange) = ⊎_elim (λ (s : IsShort p (stage (suc n)).form). inr (inl ((row, due.below, due.right), s, rise (solution p (stage n).basis (stage n).form (stage n).basic)))) (λ (f : IsFeasibleForm p (stage (suc n)).form). inl ((row, due.below, due.right), f)) (short_or_feasible p (stage (suc n)).form)
         where
-          rise : (x : ℕ → ℤ) × (d : ℤ) × IsAt p (stage n).basis (stage n).form x d → Rises p (stage n).basis (stage n).form (stage (suc n)).basis (stage (suc n)).form
+          rise : (x : ℕ → ℤ) × (d : ℤ) × IsBasicSolution p (stage n).basis (stage n).form x d → Rises p (stage n).basis (stage n).form (stage (suc n)).basis (stage (suc n)).form
           rise (x, d, at) =
-              dual_rises p (stage n).basis (stage n).form (stage n).basic (stage n).determines (rays n (omega arith) (omega arith)) row col due (stage (suc n)).basis exchange (stage (suc n)).form (stage (suc n)).basic x d at
+              dual_rises p (stage n).basis (stage n).form (stage n).basic (rays n (omega arith) (omega arith)) row col due (stage (suc n)).basis exchange (stage (suc n)).form (stage (suc n)).basic x d at
 
   primal_falls : (n : ℕ) → n < last → turn ≤ n → Falls p (stage turn) (stage n) (stage (suc n))
   primal_falls n h q = by (run.primals n h q)
     where
       by : IsPrimalStep p (stage turn) (stage n) (stage (suc n)) → Falls p (stage turn) (stage n) (stage (suc n))
-      by (row, col, due, exchange) = inr (inr (feasible_if p (stage turn).basis (stage n).form (positive_from n q (omega arith)), feasible_if p (stage turn).basis (stage (suc n)).form (positive_from (suc n) (omega arith) (omega arith)), primal_drops p (stage turn) (stage n).basis (stage n).form (stage n).basic (stage n).determines (positive_from n q (omega arith)) row col due (stage (suc n)).basis exchange (stage (suc n)).form (stage (suc n)).basic))
+      by (row, col, due, exchange) = inr (inr (feasible_if p (stage turn).basis (stage n).form (positive_from n q (omega arith)), feasible_if p (stage turn).basis (stage (suc n)).form (positive_from (suc n) (omega arith) (omega arith)), primal_drops p (stage turn) (stage n).basis (stage n).form (stage n).basic (positive_from n q (omega arith)) row col due (stage (suc n)).basis exchange (stage (suc n)).form (stage (suc n)).basic))
 
   pub run_falls : AreFalling p (stage turn) last stage
   run_falls n h = ⊎_elim (λ (b : n < turn). dual_falls n h b) (λ (b : turn ≤ n). primal_falls n h b) (side n turn)

@@ -5,10 +5,9 @@ use Rattle.std.proofs.lemmas.Bool.{cases_eq}
 use Rattle.zr_base.proofs.Ring.{spread}
 use Rattle.zr_base.proofs.Divisors.{cancel, mul_positive}
 use Rattle.zr_basis.specs.Programs.{Program}
-use Rattle.zr_basis.specs.BasicForms.{value_column, right_column, IsBasicForm}
-use Rattle.zr_basis.specs.Stages.{Determines}
+use Rattle.zr_basis.specs.BasicForms.{value_column, right_column, IsBasicForm, IsBasicSolution, IsBasicDirection}
 use Rattle.zr_basis.proofs.Among.{HaveSameColumns}
-use Rattle.zr_basis.specs.Dual.{IsRay, IsFree, IsAt}
+use Rattle.zr_basis.specs.Dual.{IsFree}
 use Rattle.zr_basis.proofs.Signs.{side}
 use Rattle.zr_basis.proofs.Unique.{in_proportion}
 
@@ -71,20 +70,20 @@ solve p basis form basic g v (suc m) h = more (solve p basis form basic g v m (o
     more s = (λ j. pick (basis m) j (v m *ℤ s.1) (form m (basis m) *ℤ s.0 j), form m (basis m) *ℤ s.1, mul_positive (form m (basis m)) s.1 own s.2, (λ i q. ⊎_elim (λ (e : i ≡ m). rw e (ap (λ z. form m (basis m) *ℤ z) (pick_same (basis m) (v m *ℤ s.1) (form m (basis m) *ℤ s.0 (basis m))) ∙ here_on (form m (basis m)) (v m) s.1)) (λ (a : i ≢ m). ap (λ z. form i (basis i) *ℤ z) (pick_other (basis m) (basis i) (v m *ℤ s.1) (form m (basis m) *ℤ s.0 (basis i)) (λ e. columns_apart p basis form basic i m (omega arith) (omega arith) a (sym e))) ∙ scaled_on (form i (basis i)) (form m (basis m)) (s.0 (basis i)) (v i) s.1 (s.3 i (omega arith))) (cases_eq i m)), (λ j out. pick_other (basis m) j (v m *ℤ s.1) (form m (basis m) *ℤ s.0 j) (λ e. out m (omega arith) (sym e)) ∙ scaled_off (form m (basis m)) (s.0 j) (g j) s.1 (s.4 j (λ i q. out i (omega arith)))))
 
 -- each basis has a basic solution
-pub solution : (p : Program) (basis : ℕ → ℕ) (form : ℕ → ℕ → ℤ) → IsBasicForm p basis form → (x : ℕ → ℤ) × (d : ℤ) × IsAt p basis form x d
+pub solution : (p : Program) (basis : ℕ → ℕ) (form : ℕ → ℕ → ℤ) → IsBasicForm p basis form → (x : ℕ → ℤ) × (d : ℤ) × IsBasicSolution p basis form x d
 unfolding Solved
 solution p basis form basic = got (solve p basis form basic (λ j. pos 0) (λ i. form i (right_column p)) p.rows (omega arith))
   where
-    got : Solved p basis form (λ j. pos 0) (λ i. form i (right_column p)) p.rows → (x : ℕ → ℤ) × (d : ℤ) × IsAt p basis form x d
-    got s = (s.0, s.1, (s.2, record { on = s.3; off = λ j h out. s.4 j out ∙ omega (arith, ints) }))
+    got : Solved p basis form (λ j. pos 0) (λ i. form i (right_column p)) p.rows → (x : ℕ → ℤ) × (d : ℤ) × IsBasicSolution p basis form x d
+    got s = (s.0, s.1, record { positive = s.2; on = s.3; off = λ j h out. s.4 j out ∙ omega (arith, ints) })
 
 -- and along each column off it a basic direction
-pub direction : (p : Program) (basis : ℕ → ℕ) (form : ℕ → ℕ → ℤ) → IsBasicForm p basis form → (col : ℕ) → IsFree p basis col → (x : ℕ → ℤ) × (d : ℤ) × IsRay p basis form col x d
+pub direction : (p : Program) (basis : ℕ → ℕ) (form : ℕ → ℕ → ℤ) → IsBasicForm p basis form → (col : ℕ) → IsFree p basis col → (x : ℕ → ℤ) × (d : ℤ) × IsBasicDirection p basis form col x d
 unfolding Solved
 direction p basis form basic col free = got (solve p basis form basic (λ j. pick col j (pos 1) (pos 0)) (λ i. neg_ℤ (form i col)) p.rows (omega arith))
   where
-    got : Solved p basis form (λ j. pick col j (pos 1) (pos 0)) (λ i. neg_ℤ (form i col)) p.rows → (x : ℕ → ℤ) × (d : ℤ) × IsRay p basis form col x d
-    got s = (s.0, s.1, (s.2, record { raised = s.4 col free.1 ∙ ap (λ z. z *ℤ s.1) (pick_same col (pos 1) (pos 0)) ∙ omega (arith, ints); on = s.3; off = λ j h a out. s.4 j out ∙ ap (λ z. z *ℤ s.1) (pick_other col j (pos 1) (pos 0) (λ e. a (sym e))) ∙ omega (arith, ints) }))
+    got : Solved p basis form (λ j. pick col j (pos 1) (pos 0)) (λ i. neg_ℤ (form i col)) p.rows → (x : ℕ → ℤ) × (d : ℤ) × IsBasicDirection p basis form col x d
+    got s = (s.0, s.1, record { positive = s.2; raised = s.4 col free.1 ∙ ap (λ z. z *ℤ s.1) (pick_same col (pos 1) (pos 0)) ∙ omega (arith, ints); on = s.3; off = λ j h a out. s.4 j out ∙ ap (λ z. z *ℤ s.1) (pick_other col j (pos 1) (pos 0) (λ e. a (sym e))) ∙ omega (arith, ints) })
 
 same_value : (o m r q x y d e : ℤ) → (pos 0) <ℤ o → (pos 0) <ℤ m → o *ℤ x ≡ r *ℤ d → m *ℤ y ≡ q *ℤ e → m *ℤ r ≡ o *ℤ q → x *ℤ e ≡ y *ℤ d
 same_value o m r q x y d e op mp first second third =
@@ -94,14 +93,14 @@ zeros_alike : (x y d e : ℤ) → x ≡ pos 0 → y ≡ pos 0 → x *ℤ e ≡ y
 zeros_alike x y d e h i = rw (h, i) (omega (arith, ints))
 
 -- bases with the same columns have the same basic solution
-pub same_solution : (p : Program) (basis other : ℕ → ℕ) (form made : ℕ → ℕ → ℤ) → IsBasicForm p basis form → Determines p basis → IsBasicForm p other made → HaveSameColumns p basis other → (x y : ℕ → ℤ) (d e : ℤ) → IsAt p basis form x d → IsAt p other made y e → (j : ℕ) → j < value_column p → x j *ℤ e ≡ y j *ℤ d
-same_solution p basis other form made basic determines second same x y d e first last j h = ⊎_elim (λ (f : (k : ℕ) × (k < p.rows) × (j ≡ basis k)). on f (same.0 f.0 (omega (arith, f.1)))) (λ (out : (k : ℕ) → k < p.rows → j ≢ basis k). zeros_alike (x j) (y j) d e (first.1.off j h out) (last.1.off j h (λ k q s. off out k q s (same.1 k (omega arith))))) (in_basis basis p.rows j)
+pub same_solution : (p : Program) (basis other : ℕ → ℕ) (form made : ℕ → ℕ → ℤ) → IsBasicForm p basis form → IsBasicForm p other made → HaveSameColumns p basis other → (x y : ℕ → ℤ) (d e : ℤ) → IsBasicSolution p basis form x d → IsBasicSolution p other made y e → (j : ℕ) → j < value_column p → x j *ℤ e ≡ y j *ℤ d
+same_solution p basis other form made basic second same x y d e first last j h = ⊎_elim (λ (f : (k : ℕ) × (k < p.rows) × (j ≡ basis k)). on f (same.0 f.0 (omega (arith, f.1)))) (λ (out : (k : ℕ) → k < p.rows → j ≢ basis k). zeros_alike (x j) (y j) d e (first.off j h out) (last.off j h (λ k q s. off out k q s (same.1 k (omega arith))))) (in_basis basis p.rows j)
   where
     on : (f : (k : ℕ) × (k < p.rows) × (j ≡ basis k)) → (k : ℕ) × (k ≤ p.rows) × (basis f.0 ≡ other k) → x j *ℤ e ≡ y j *ℤ d
     on f g =
         let inside : g.0 < p.rows = ⊎_elim (λ (b : g.0 < p.rows). b) (λ (b : p.rows ≤ g.0). let t : g.0 ≡ p.rows = omega (arith, g.1, b) in let u = f.2 ∙ g.2 ∙ ap other t ∙ second.value in absurd (omega (arith, u, h))) (side g.0 p.rows) in
         let to : j ≡ other g.0 = f.2 ∙ g.2 in
-        same_value (form f.0 (basis f.0)) (made g.0 (other g.0)) (form f.0 (right_column p)) (made g.0 (right_column p)) (x j) (y j) d e (basic.own f.0 (omega (arith, f.1))) (second.own g.0 g.1) (ap (λ z. form f.0 (basis f.0) *ℤ x z) f.2 ∙ first.1.on f.0 f.1) (ap (λ z. made g.0 (other g.0) *ℤ y z) to ∙ last.1.on g.0 inside) (in_proportion p basis other form made basic determines second same f.0 g.0 (omega (arith, f.1)) g.1 g.2 (right_column p) (omega arith))
+        same_value (form f.0 (basis f.0)) (made g.0 (other g.0)) (form f.0 (right_column p)) (made g.0 (right_column p)) (x j) (y j) d e (basic.own f.0 (omega (arith, f.1))) (second.own g.0 g.1) (ap (λ z. form f.0 (basis f.0) *ℤ x z) f.2 ∙ first.on f.0 f.1) (ap (λ z. made g.0 (other g.0) *ℤ y z) to ∙ last.on g.0 inside) (in_proportion p basis other form made basic second same f.0 g.0 (omega (arith, f.1)) g.1 g.2 (right_column p) (omega arith))
 
     off : ((k : ℕ) → k < p.rows → j ≢ basis k) → (k : ℕ) → k < p.rows → j ≡ other k → (m : ℕ) × (m ≤ p.rows) × (other k ≡ basis m) → ⊥
     off out k q s g = ⊎_elim (λ (b : g.0 < p.rows). out g.0 b (s ∙ g.2)) (λ (b : p.rows ≤ g.0). let t : g.0 ≡ p.rows = omega (arith, g.1, b) in let u = s ∙ g.2 ∙ ap basis t ∙ basic.value in absurd (omega (arith, u, h))) (side g.0 p.rows)

@@ -7,9 +7,8 @@ use Rattle.zr_base.proofs.Divisors.{cancel}
 use Rattle.zr_basis.specs.Programs.{Program}
 use Rattle.zr_basis.specs.BasicForms.{value_column, right_column, IsBasicForm}
 use Rattle.zr_basis.specs.Bases.{Exchanges}
-use Rattle.zr_basis.specs.Stages.{Determines}
 use Rattle.zr_basis.proofs.Signs.{times_zero}
-use Rattle.zr_basis.proofs.Unique.{mixed, both_zero, crossed, equal_if}
+use Rattle.zr_basis.proofs.Unique.{mixed, both_zero, crossed, equal_if, determined}
 
 without : (o r i z a f : ℤ) → z ≡ pos 0 → o *ℤ (i *ℤ z -ℤ a *ℤ f) ≡ r → neg_ℤ (o *ℤ (a *ℤ f)) ≡ r
 without o r i z a f h e =
@@ -35,7 +34,7 @@ second_zero o own a b m f r h i j =
     let v : own *ℤ m -ℤ a *ℤ f ≡ own *ℤ m = omega (arith, ints, t, u) in
     rw (v, i, j) (crossed o (own *ℤ b))
 
-module _ (p : Program) (basis : ℕ → ℕ) (form : ℕ → ℕ → ℤ) (basic : IsBasicForm p basis form) (determines : Determines p basis) (row col : ℕ) (below : row < p.rows) (column : col < value_column p) (next : ℕ → ℕ) (exchange : Exchanges basis row col next) (made : ℕ → ℕ → ℤ) (after : IsBasicForm p next made) where
+module _ (p : Program) (basis : ℕ → ℕ) (form : ℕ → ℕ → ℤ) (basic : IsBasicForm p basis form) (row col : ℕ) (below : row < p.rows) (column : col < value_column p) (next : ℕ → ℕ) (exchange : Exchanges basis row col next) (made : ℕ → ℕ → ℤ) (after : IsBasicForm p next made) where
   -- where the basis stays, the new equation is zero at its columns but its own
   stays : (i m : ℕ) → i ≤ p.rows → m ≤ p.rows → m ≢ row → m ≢ i → made i (basis m) ≡ pos 0
   stays i m h q a b = ap (made i) (sym (exchange.1 m a)) ∙ after.other i m h q (λ s. b (sym s))
@@ -51,7 +50,7 @@ module _ (p : Program) (basis : ℕ → ℕ) (form : ℕ → ℕ → ℤ) (basic
       at m q = ⊎_elim (λ (e : m ≡ row). second_zero (form row (basis row)) (form i (basis i)) (made i (basis i)) (made i (basis row)) (made i (basis m)) (form i (basis m)) (form row (basis m)) (basic.other i m h q (λ s. apart (s ∙ e))) (ap (λ z. made i (basis z)) e) (ap (λ z. form row (basis z)) e)) (λ (a : m ≢ row). both_zero (form row (basis row)) (form i (basis i) *ℤ made i (basis row)) (form i (basis i) *ℤ made i (basis m) -ℤ made i (basis i) *ℤ form i (basis m)) (form row (basis m)) (⊎_elim (λ (e : m ≡ i). rw e (crossed (form i (basis i)) (made i (basis i)))) (λ (c : m ≢ i). both_zero (form i (basis i)) (made i (basis i)) (made i (basis m)) (form i (basis m)) (stays i m h q a c) (basic.other i m h q (λ s. c (sym s)))) (cases_eq m i)) (basic.other row m (omega arith) q (λ s. a (sym s)))) (cases_eq m row)
 
       all : (k : ℕ) → k ≤ right_column p → form row (basis row) *ℤ (form i (basis i) *ℤ made i k -ℤ made i (basis i) *ℤ form i k) ≡ (form i (basis i) *ℤ made i (basis row)) *ℤ form row k
-      all k q = equal_if (form row (basis row) *ℤ (form i (basis i) *ℤ made i k -ℤ made i (basis i) *ℤ form i k)) ((form i (basis i) *ℤ made i (basis row)) *ℤ form row k) (determines (λ c. form row (basis row) *ℤ (form i (basis i) *ℤ made i c -ℤ made i (basis i) *ℤ form i c) -ℤ (form i (basis i) *ℤ made i (basis row)) *ℤ form row c) (mixed p (λ c. form i (basis i) *ℤ made i c -ℤ made i (basis i) *ℤ form i c) (form row) (form row (basis row)) (form i (basis i) *ℤ made i (basis row)) (mixed p (made i) (form i) (form i (basis i)) (made i (basis i)) (after.combination i h) (basic.combination i h)) (basic.combination row (omega arith))) at k q)
+      all k q = equal_if (form row (basis row) *ℤ (form i (basis i) *ℤ made i k -ℤ made i (basis i) *ℤ form i k)) ((form i (basis i) *ℤ made i (basis row)) *ℤ form row k) (determined p basis form basic (λ c. form row (basis row) *ℤ (form i (basis i) *ℤ made i c -ℤ made i (basis i) *ℤ form i c) -ℤ (form i (basis i) *ℤ made i (basis row)) *ℤ form row c) (mixed p (λ c. form i (basis i) *ℤ made i c -ℤ made i (basis i) *ℤ form i c) (form row) (form row (basis row)) (form i (basis i) *ℤ made i (basis row)) (mixed p (made i) (form i) (form i (basis i)) (made i (basis i)) (after.combination i h) (basic.combination i h)) (basic.combination row (omega arith))) at k q)
 
   -- the numbers of the pivot's equation
   pub turned_own : (j : ℕ) → j ≤ right_column p → form row col *ℤ made row j ≡ made row col *ℤ form row j
@@ -61,7 +60,7 @@ module _ (p : Program) (basis : ℕ → ℕ) (form : ℕ → ℕ → ℤ) (basic
       at m q = ⊎_elim (λ (e : m ≡ row). rw e (crossed (form row (basis row)) (made row (basis row)))) (λ (a : m ≢ row). both_zero (form row (basis row)) (made row (basis row)) (made row (basis m)) (form row (basis m)) (stays row m (omega arith) q a a) (basic.other row m (omega arith) q (λ s. a (sym s)))) (cases_eq m row)
 
       all : (k : ℕ) → k ≤ right_column p → form row (basis row) *ℤ made row k ≡ made row (basis row) *ℤ form row k
-      all k q = equal_if (form row (basis row) *ℤ made row k) (made row (basis row) *ℤ form row k) (determines (λ c. form row (basis row) *ℤ made row c -ℤ made row (basis row) *ℤ form row c) (mixed p (made row) (form row) (form row (basis row)) (made row (basis row)) (after.combination row (omega arith)) (basic.combination row (omega arith))) at k q)
+      all k q = equal_if (form row (basis row) *ℤ made row k) (made row (basis row) *ℤ form row k) (determined p basis form basic (λ c. form row (basis row) *ℤ made row c -ℤ made row (basis row) *ℤ form row c) (mixed p (made row) (form row) (form row (basis row)) (made row (basis row)) (after.combination row (omega arith)) (basic.combination row (omega arith))) at k q)
 
   -- own numbers after the exchange
   pub own_after : (i : ℕ) → i ≤ p.rows → i ≢ row → (pos 0) <ℤ made i (basis i)

@@ -17,8 +17,8 @@ pub record CombinesEquations (p : Program) (e : ℕ → ℤ) : Type 0 where
   pub right : e (right_column p) ≡ sum_to p.rows (λ r. e (p.columns + r) *ℤ p.le r)
 
 -- no divisor above 1 is common to the first `width` numbers
-abbrev pub IsReduced : ℕ → (ℕ → ℤ) → Type 0
-IsReduced width e = (d : ℕ) → ((j : ℕ) → j < width → d ∣ unsigned_abs (e j)) → d ≡ 1
+abbrev pub IsPrimitive : ℕ → (ℕ → ℤ) → Type 0
+IsPrimitive width e = (d : ℕ) → ((j : ℕ) → j < width → d ∣ unsigned_abs (e j)) → d ≡ 1
 
 -- the basis has a column for each row of the program, and the value's; each has its equation, which is above zero there, zero at the others, and without a common divisor
 pub record IsBasicForm (p : Program) (basis : ℕ → ℕ) (form : ℕ → ℕ → ℤ) : Type 0 where
@@ -27,15 +27,17 @@ pub record IsBasicForm (p : Program) (basis : ℕ → ℕ) (form : ℕ → ℕ �
   pub combination : (i : ℕ) → i ≤ p.rows → CombinesEquations p (form i)
   pub own : (i : ℕ) → i ≤ p.rows → (pos 0) <ℤ form i (basis i)
   pub other : (i k : ℕ) → i ≤ p.rows → k ≤ p.rows → i ≢ k → form i (basis k) ≡ pos 0
-  pub reduced : (i : ℕ) → i ≤ p.rows → IsReduced (p.columns + p.rows + 2) (form i)
+  pub primitive : (i : ℕ) → i ≤ p.rows → IsPrimitive (p.columns + p.rows + 2) (form i)
 
 -- the columns have the values `x j / d`: zero off the basis, and what the equations say on it
 pub record IsBasicSolution (p : Program) (basis : ℕ → ℕ) (form : ℕ → ℕ → ℤ) (x : ℕ → ℤ) (d : ℤ) : Type 0 where
+  pub positive : (pos 0) <ℤ d
   pub on : (i : ℕ) → i < p.rows → form i (basis i) *ℤ x (basis i) ≡ form i (right_column p) *ℤ d
   pub off : (j : ℕ) → j < value_column p → ((i : ℕ) → i < p.rows → j ≢ basis i) → x j ≡ pos 0
 
 -- x raises column col by d, no other column off the basis, and those on it as the equations say
 pub record IsBasicDirection (p : Program) (basis : ℕ → ℕ) (form : ℕ → ℕ → ℤ) (col : ℕ) (x : ℕ → ℤ) (d : ℤ) : Type 0 where
+  pub positive : (pos 0) <ℤ d
   pub raised : x col ≡ d
   pub on : (i : ℕ) → i < p.rows → form i (basis i) *ℤ x (basis i) ≡ neg_ℤ (form i col) *ℤ d
   pub off : (j : ℕ) → j < value_column p → j ≢ col → ((i : ℕ) → i < p.rows → j ≢ basis i) → x j ≡ pos 0

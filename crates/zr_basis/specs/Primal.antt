@@ -14,8 +14,8 @@ abbrev pub vector : Program → (ℕ → ℕ) → (ℕ → ℤ) → ℕ → ℤ
 vector p start e k = e (place p start k)
 
 -- the vector of each row is lexicographically positive
-abbrev pub ArePositive : Program → (ℕ → ℕ) → (ℕ → ℕ → ℤ) → Type 0
-ArePositive p start form = (i : ℕ) → i < p.rows → IsLeading (p.rows + 1) (vector p start (form i))
+abbrev pub AreVectorsPositive : Program → (ℕ → ℕ) → (ℕ → ℕ → ℤ) → Type 0
+AreVectorsPositive p start form = (i : ℕ) → i < p.rows → IsLeading (p.rows + 1) (vector p start (form i))
 
 -- the vector of row i is lexicographically below that of row k, each over its number at the column
 abbrev pub IsRowBelow : Program → (ℕ → ℕ) → (ℕ → ℕ → ℤ) → ℕ → ℕ → ℕ → Type 0

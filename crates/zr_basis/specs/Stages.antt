@@ -13,12 +13,11 @@ Determines p basis =
     → j ≤ right_column p
     → e j ≡ pos 0
 
--- a basis that determines the equations, and its form
+-- a basis and its form
 pub record Stage (p : Program) : Type 0 where
   pub basis : ℕ → ℕ
   pub form : ℕ → ℕ → ℤ
   pub basic : IsBasicForm p basis form
-  pub determines : Determines p basis
 
 -- a right side is below zero
 abbrev pub IsShort : Program → (ℕ → ℕ → ℤ) → Type 0

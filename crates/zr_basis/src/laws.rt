@@ -5,16 +5,15 @@ ghost use Rattle.zr_basis.specs.BasicForms.{value_column, right_column, IsBasicF
 ghost use Rattle.zr_basis.specs.Bases.{Exchanges, IsBasis, IsOtherBasis, IsSameBasis};
 ghost use Rattle.zr_basis.specs.Choices.{choose};
 ghost use Rattle.zr_basis.specs.Stages.{Determines, IsFeasibleForm, Stage};
-ghost use Rattle.zr_basis.specs.Primal.{ArePositive, Drops, IsPrimalDue};
-ghost use Rattle.zr_basis.specs.Dual.{AreRaysPositive, IsDualDue, IsDualDueByNumbers, Rises};
+ghost use Rattle.zr_basis.specs.Primal.{AreVectorsPositive, Drops, IsPrimalDue};
+ghost use Rattle.zr_basis.specs.Dual.{AreDirectionsPositive, IsDualDue, IsDualDueByNumbers, Rises};
 ghost use Rattle.zr_basis.specs.Runs.{AreFalling, IsRun};
 
-/// The slacks determine the equations, an exchange at a number that isn't zero keeps a basis that
-/// does, and bases with the same columns have the same equations.
+/// The columns of a basis determine the equations, and bases with the same columns have the same
+/// equations.
 pub fn law_of_bases()
-    ensures slacks { (p : Program) (basis : ℕ → ℕ) → ((i : ℕ) → i ≤ p.rows → basis i ≡ p.columns + i) → Determines p basis }
-    ensures exchanged { (p : Program) (basis : ℕ → ℕ) (form : ℕ → ℕ → ℤ) → IsBasicForm p basis form → Determines p basis → (row col : ℕ) → row < p.rows → col < value_column p → form row col ≢ pos 0 → (next : ℕ → ℕ) → Exchanges basis row col next → Determines p next }
-    ensures equations { (p : Program) (basis other : ℕ → ℕ) (form made : ℕ → ℕ → ℤ) → IsBasicForm p basis form → Determines p basis → IsBasicForm p other made → IsSameBasis p.rows basis other → (i k : ℕ) → i ≤ p.rows → k ≤ p.rows → basis i ≡ other k → (j : ℕ) → j ≤ right_column p → form i j ≡ made k j }
+    ensures determines { (p : Program) (basis : ℕ → ℕ) (form : ℕ → ℕ → ℤ) → IsBasicForm p basis form → Determines p basis }
+    ensures equations { (p : Program) (basis other : ℕ → ℕ) (form made : ℕ → ℕ → ℤ) → IsBasicForm p basis form → IsBasicForm p other made → IsSameBasis p.rows basis other → (i k : ℕ) → i ≤ p.rows → k ≤ p.rows → basis i ≡ other k → (j : ℕ) → j ≤ right_column p → form i j ≡ made k j }
 {}
 
 /// Bases of which no two are the same are at most as many as the ways to choose their columns, and
@@ -28,20 +27,20 @@ pub fn law_of_choices()
 /// on, a pivot keeps them so, and the value's vector falls.
 pub fn law_of_primal_rule()
     ensures chooses { (p : Program) (start : ℕ → ℕ) (form : ℕ → ℕ → ℤ) (col i : ℕ) → col < value_column p → (pos 0) <ℤ form p.rows col → i < p.rows → (pos 0) <ℤ form i col → (row : ℕ) × IsPrimalDue p start form row col }
-    ensures starts { (p : Program) (basis : ℕ → ℕ) (form : ℕ → ℕ → ℤ) → IsBasicForm p basis form → IsFeasibleForm p form → ArePositive p basis form }
-    ensures feasible { (p : Program) (start : ℕ → ℕ) (form : ℕ → ℕ → ℤ) → ArePositive p start form → IsFeasibleForm p form }
-    ensures keeps { (p : Program) (start : Stage p) (basis : ℕ → ℕ) (form : ℕ → ℕ → ℤ) → IsBasicForm p basis form → Determines p basis → ArePositive p start.basis form → (row col : ℕ) → IsPrimalDue p start.basis form row col → (next : ℕ → ℕ) → Exchanges basis row col next → (made : ℕ → ℕ → ℤ) → IsBasicForm p next made → ArePositive p start.basis made }
-    ensures drops { (p : Program) (start : Stage p) (basis : ℕ → ℕ) (form : ℕ → ℕ → ℤ) → IsBasicForm p basis form → Determines p basis → ArePositive p start.basis form → (row col : ℕ) → IsPrimalDue p start.basis form row col → (next : ℕ → ℕ) → Exchanges basis row col next → (made : ℕ → ℕ → ℤ) → IsBasicForm p next made → Drops p start.basis form made }
+    ensures starts { (p : Program) (basis : ℕ → ℕ) (form : ℕ → ℕ → ℤ) → IsBasicForm p basis form → IsFeasibleForm p form → AreVectorsPositive p basis form }
+    ensures feasible { (p : Program) (start : ℕ → ℕ) (form : ℕ → ℕ → ℤ) → AreVectorsPositive p start form → IsFeasibleForm p form }
+    ensures keeps { (p : Program) (start : Stage p) (basis : ℕ → ℕ) (form : ℕ → ℕ → ℤ) → IsBasicForm p basis form → AreVectorsPositive p start.basis form → (row col : ℕ) → IsPrimalDue p start.basis form row col → (next : ℕ → ℕ) → Exchanges basis row col next → (made : ℕ → ℕ → ℤ) → IsBasicForm p next made → AreVectorsPositive p start.basis made }
+    ensures drops { (p : Program) (start : Stage p) (basis : ℕ → ℕ) (form : ℕ → ℕ → ℤ) → IsBasicForm p basis form → AreVectorsPositive p start.basis form → (row col : ℕ) → IsPrimalDue p start.basis form row col → (next : ℕ → ℕ) → Exchanges basis row col next → (made : ℕ → ℕ → ℤ) → IsBasicForm p next made → Drops p start.basis form made }
 {}
 
 /// The dual rule: the directions are positive at the slacks, a pivot keeps them so, and the basic
 /// solution rises.
 pub fn law_of_dual_rule()
     ensures chooses { (p : Program) (basis : ℕ → ℕ) (form : ℕ → ℕ → ℤ) → IsBasicForm p basis form → (row : ℕ) → row < p.rows → (k : ℕ) → k < value_column p → form row k <ℤ (pos 0) → form row (right_column p) <ℤ (pos 0) → (col : ℕ) × IsDualDue p basis form row col }
-    ensures starts { (p : Program) (basis : ℕ → ℕ) (form : ℕ → ℕ → ℤ) → ((i : ℕ) → i ≤ p.rows → basis i ≡ p.columns + i) → AreRaysPositive p basis form }
+    ensures starts { (p : Program) (basis : ℕ → ℕ) (form : ℕ → ℕ → ℤ) → ((i : ℕ) → i ≤ p.rows → basis i ≡ p.columns + i) → AreDirectionsPositive p basis form }
     ensures numbers { (p : Program) (basis : ℕ → ℕ) (form : ℕ → ℕ → ℤ) → IsBasicForm p basis form → (row col : ℕ) → IsDualDueByNumbers p basis form row col → IsDualDue p basis form row col }
-    ensures keeps { (p : Program) (basis : ℕ → ℕ) (form : ℕ → ℕ → ℤ) → IsBasicForm p basis form → Determines p basis → AreRaysPositive p basis form → (row col : ℕ) → IsDualDue p basis form row col → (next : ℕ → ℕ) → Exchanges basis row col next → (made : ℕ → ℕ → ℤ) → IsBasicForm p next made → AreRaysPositive p next made }
-    ensures rises { (p : Program) (basis : ℕ → ℕ) (form : ℕ → ℕ → ℤ) → IsBasicForm p basis form → Determines p basis → AreRaysPositive p basis form → (row col : ℕ) → IsDualDue p basis form row col → (next : ℕ → ℕ) → Exchanges basis row col next → (made : ℕ → ℕ → ℤ) → IsBasicForm p next made → Rises p basis form next made }
+    ensures keeps { (p : Program) (basis : ℕ → ℕ) (form : ℕ → ℕ → ℤ) → IsBasicForm p basis form → AreDirectionsPositive p basis form → (row col : ℕ) → IsDualDue p basis form row col → (next : ℕ → ℕ) → Exchanges basis row col next → (made : ℕ → ℕ → ℤ) → IsBasicForm p next made → AreDirectionsPositive p next made }
+    ensures rises { (p : Program) (basis : ℕ → ℕ) (form : ℕ → ℕ → ℤ) → IsBasicForm p basis form → AreDirectionsPositive p basis form → (row col : ℕ) → IsDualDue p basis form row col → (next : ℕ → ℕ) → Exchanges basis row col next → (made : ℕ → ℕ → ℤ) → IsBasicForm p next made → Rises p basis form next made }
 {}
 
 /// A run comes to no basis twice, so its pivots are fewer than the ways to choose the columns of a

@@ -1,7 +1,7 @@
 -- The basic form after an equation has come in before the value's.
 use Rattle.std.proofs.Common.{◌≡◌, ◌≢◌, ℕ, ◌+◌, ◌<◌, arith, refl, sym, ap, ◌∙◌, ℤ, pos, ◌*ℤ◌, ◌<ℤ◌, List, length, slice_index}
 use Rattle.std.proofs.lemmas.Int.{ints}
-use Rattle.zr_basis.specs.BasicForms.{IsReduced}
+use Rattle.zr_basis.specs.BasicForms.{IsPrimitive}
 use Rattle.zr_simplex.specs.declared.columns.Column.{Column}
 use Rattle.zr_simplex.specs.declared.columns.Column.TheVariants.{Basic, Free}
 use Rattle.zr_simplex.specs.Programs.{numbers}
@@ -9,7 +9,7 @@ use Rattle.zr_simplex.specs.RowSteps.{IsQuotient}
 use Rattle.zr_simplex.specs.Tableaus.{AreColumns, Holds, column_at, form_in, number_at, row_in}
 use Rattle.zr_simplex.specs.Appends.{IsCondensed, extended}
 use Rattle.zr_simplex.proofs.Stands.{partition_of}
-use Rattle.zr_simplex.proofs.Condensed.{full_reads, own_number, reduced_out, zero_number}
+use Rattle.zr_simplex.proofs.Condensed.{full_reads, own_number, primitive_out, zero_number}
 use Rattle.zr_simplex.proofs.Enlarged.{by_column, extends}
 
 -- the columns as they stand before and after, the rows before and after
@@ -110,10 +110,10 @@ module _ {basis free : List ℕ} {columns : List Column} {ns : List ℤ} {next o
   pub row_own : (pos 0) <ℤ numbers (row_in (n + 1 + 1) ms m) (n + 1) → (pos 0) <ℤ form_in then (n + 1) ms m v
   row_own above = rw (then_slack, own_number (n + 1) m (row_in (n + 1 + 1) ms m)) above
 
-  pub row_reduced : IsReduced (n + 1 + 1) (numbers (row_in (n + 1 + 1) ms m)) → IsReduced (v + 3) (form_in then (n + 1) ms m)
-  row_reduced reduced =
+  pub row_primitive : IsPrimitive (n + 1 + 1) (numbers (row_in (n + 1 + 1) ms m)) → IsPrimitive (v + 3) (form_in then (n + 1) ms m)
+  row_primitive primitive =
       let xs = row_in (n + 1 + 1) ms m in
       let h : m < length next = omega (arith, add.next_count) in
       let long : length off + 1 ≡ n + 1 + 1 = omega (arith, add.off_count) in
       let reads = rw add.off_count at (full_reads add.after m xs h) in
-      rw (← add.then_long) (reduced_out (partition_of add.after) m h (form_in then (n + 1) ms m) (numbers xs) reads (rw long reduced))
+      rw (← add.then_long) (primitive_out (partition_of add.after) m h (form_in then (n + 1) ms m) (numbers xs) reads (rw long primitive))

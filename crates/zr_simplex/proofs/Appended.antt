@@ -89,6 +89,6 @@ module _ (q : Program) (m : ℕ) (more : q.rows ≡ suc m) (old new : Equations)
     partition = made.partition;
     free_count = ap length made.free ∙ length-set old.free q.columns (q.columns + m + 2) ∙ kept.free_count;
     right = ap (λ f. slice_index f q.columns) made.free ∙ get_or-set_same old.free q.columns (q.columns + m + 2) 0 (omega (arith, kept.free_count)) ∙ omega (arith, more);
-    form = enlarged q m more (basis_of old) (basis_of new) (form_of old) (form_of new) kept.form basis_same basis_last rows_extend last_extends combination made.own cleared no_value made.reduced;
-    complete = enlarged_complete q m more (basis_of old) (basis_of new) (form_of old) (form_of new) kept.form basis_same basis_last rows_extend last_extends combination made.own cleared no_value made.reduced kept.complete recovers;
+    form = enlarged q m more (basis_of old) (basis_of new) (form_of old) (form_of new) kept.form basis_same basis_last rows_extend last_extends combination made.own cleared no_value made.primitive;
+    complete = enlarged_complete q m more (basis_of old) (basis_of new) (form_of old) (form_of new) kept.form basis_same basis_last rows_extend last_extends combination made.own cleared no_value made.primitive kept.complete recovers;
   }

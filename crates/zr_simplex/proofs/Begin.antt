@@ -7,9 +7,9 @@ use Rattle.std.specs.Int.{◌∣◌}
 use Rattle.zr_base.specs.Sums.{sum_to}
 use Rattle.zr_base.proofs.Dense.{sum_to_same}
 use Rattle.zr_basis.specs.Programs.{Program}
-use Rattle.zr_basis.specs.BasicForms.{CombinesEquations, IsReduced, IsBasicForm}
+use Rattle.zr_basis.specs.BasicForms.{CombinesEquations, IsPrimitive, IsBasicForm}
 use Rattle.zr_simplex.specs.Dues.{HoldsAt, IsComplete}
-use Rattle.zr_simplex.specs.RowSteps.{IsStart}
+use Rattle.zr_simplex.specs.RowSteps.{IsFirstEquation}
 use Rattle.zr_simplex.proofs.Sums.{sum_to-append, sum_to-all_zero, sum_to-single}
 
 one_if : (d : ℕ) → d ∣ 1 → d ≡ 1
@@ -18,8 +18,8 @@ one_if d h =
     let least : 0 < d = pos_of_dvd_of_pos h positive in
     omega (arith, le_of_dvd positive h)
 
-reduced_by_one : (width own : ℕ) (e : ℕ → ℤ) → own < width → e own ≡ pos 1 → IsReduced width e
-reduced_by_one width own e below one d all =
+primitive_by_one : (width own : ℕ) (e : ℕ → ℤ) → own < width → e own ≡ pos 1 → IsPrimitive width e
+primitive_by_one width own e below one d all =
     let h = all own below in
     one_if d (rw one at h)
 
@@ -40,7 +40,7 @@ aim_case e s v a p q r =
     omega (arith, ints, p, m, r)
 
 -- one row
-module _ (p : Program) (i : ℕ) (h : i < p.rows) (e : ℕ → ℤ) (start : IsStart p.columns (p.columns + p.rows) (p.columns + i) (p.coef i) (p.le i) e) where
+module _ (p : Program) (i : ℕ) (h : i < p.rows) (e : ℕ → ℤ) (start : IsFirstEquation p.columns (p.columns + p.rows) (p.columns + i) (p.coef i) (p.le i) e) where
   -- only its own slack stands in it
   own_slack : (a : ℕ → ℤ) → sum_to p.rows (λ r. e (p.columns + r) *ℤ a r) ≡ a i
   own_slack a =
@@ -61,7 +61,7 @@ module _ (p : Program) (i : ℕ) (h : i < p.rows) (e : ℕ → ℤ) (start : IsS
       let right = ap (λ z. z *ℤ d) start.right in
       omega (arith, ints, split, coefs, slack, at, right)
 
-module _ (p : Program) (form : ℕ → ℕ → ℤ) (start : (i : ℕ) → i < p.rows → IsStart p.columns (p.columns + p.rows) (p.columns + i) (p.coef i) (p.le i) (form i)) (last : IsStart p.columns (p.columns + p.rows) (p.columns + p.rows) (λ j. neg_ℤ (p.aim j)) (pos 0) (form p.rows)) where
+module _ (p : Program) (form : ℕ → ℕ → ℤ) (start : (i : ℕ) → i < p.rows → IsFirstEquation p.columns (p.columns + p.rows) (p.columns + i) (p.coef i) (p.le i) (form i)) (last : IsFirstEquation p.columns (p.columns + p.rows) (p.columns + p.rows) (λ j. neg_ℤ (p.aim j)) (pos 0) (form p.rows)) where
   no_slack : (a : ℕ → ℤ) → sum_to p.rows (λ r. form p.rows (p.columns + r) *ℤ a r) ≡ pos 0
   no_slack a =
       sum_to-all_zero p.rows (λ r. form p.rows (p.columns + r) *ℤ a r) (λ r q. times_zero (form p.rows (p.columns + r)) (a r) (last.zeros (p.columns + r) (omega arith) (omega arith) (λ e. omega (arith, e, q))))
@@ -85,7 +85,7 @@ module _ (p : Program) (form : ℕ → ℕ → ℤ) (start : (i : ℕ) → i < p
     combination = λ i h. ⊎_elim (λ (e : i ≡ p.rows). rw e aim_combination) (λ (a : i ≢ p.rows). let q : i < p.rows = omega arith in row_combination p i q (form i) (start i q)) (cases_eq i p.rows);
     own = λ i h. rw (is i h, one_at i h) (omega (arith, ints));
     other = λ i k h q apart. rw (is k q) (zero_at i k h q apart);
-    reduced = λ i h. reduced_by_one (p.columns + p.rows + 2) (p.columns + i) (form i) (omega arith) (one_at i h);
+    primitive = λ i h. primitive_by_one (p.columns + p.rows + 2) (p.columns + i) (form i) (omega arith) (one_at i h);
   }
 
   pub start_complete : IsComplete p form

@@ -4,7 +4,7 @@ use Rattle.std.proofs.lemmas.Int.{ints}
 use Rattle.zr_base.specs.Steps.{cross_of}
 use Rattle.zr_base.proofs.CrossLaws.{cross_ok}
 use Rattle.zr_base.proofs.Ring.{spread}
-use Rattle.zr_basis.specs.BasicForms.{IsReduced}
+use Rattle.zr_basis.specs.BasicForms.{IsPrimitive}
 use Rattle.zr_simplex.specs.RowSteps.{IsQuotient, IsCleared, entered}
 use Rattle.zr_simplex.specs.Programs.{numbers}
 use Rattle.zr_simplex.specs.StuckSteps.{AreCoprimeParts}
@@ -12,8 +12,8 @@ use Rattle.zr_simplex.proofs.Divide.{cancel_apart, zero_if}
 use Rattle.zr_simplex.proofs.Swaps.{entered_same}
 
 -- an equation that needs no step
-pub cleared_none : (width : ℕ) (p : ℤ) (f : ℕ → ℤ) (xs : List ℤ) (place home : ℕ) → numbers xs place ≡ pos 0 → (pos 0) <ℤ numbers xs home → IsReduced width (numbers xs) → IsCleared width p (numbers xs place) f (numbers (entered place xs)) (numbers xs) home
-cleared_none width p f xs place home zero above reduced = record {
+pub cleared_none : (width : ℕ) (p : ℤ) (f : ℕ → ℤ) (xs : List ℤ) (place home : ℕ) → numbers xs place ≡ pos 0 → (pos 0) <ℤ numbers xs home → IsPrimitive width (numbers xs) → IsCleared width p (numbers xs place) f (numbers (entered place xs)) (numbers xs) home
+cleared_none width p f xs place home zero above primitive = record {
   mixture = record {
     by = pos 1;
     less = pos 0;
@@ -24,7 +24,7 @@ cleared_none width p f xs place home zero above reduced = record {
   };
   cleared = omega (arith, ints, zero);
   own = above;
-  reduced = reduced;
+  primitive = primitive;
 }
 
 positive_apart : (z : ℤ) → (pos 0) <ℤ z → z ≢ pos 0
@@ -50,8 +50,8 @@ module _ (f e mid : List ℤ) (home : ℕ) (p a by less : ℤ) (own : home < len
   mid_apart z =
       by_apart (zero_if by (numbers e home) (positive_apart (numbers e home) above) (sym mid_home ∙ z))
 
-  pub cleared : (made : List ℤ) → IsQuotient (length mid) (numbers mid) (numbers made) → (pos 0) <ℤ numbers made home → IsReduced (length mid) (numbers made) → IsCleared (length e) p a (numbers f) (numbers e) (numbers made) home
-  cleared made q up reduced = record {
+  pub cleared : (made : List ℤ) → IsQuotient (length mid) (numbers mid) (numbers made) → (pos 0) <ℤ numbers made home → IsPrimitive (length mid) (numbers made) → IsCleared (length e) p a (numbers f) (numbers e) (numbers made) home
+  cleared made q up primitive = record {
     mixture = record {
       by = by;
       less = less;
@@ -62,5 +62,5 @@ module _ (f e mid : List ℤ) (home : ℕ) (p a by less : ℤ) (own : home < len
     };
     cleared = cancel_apart (by *ℤ a) (less *ℤ p) low.over (positive_apart low.over low.positive) (crossed by less low.over p a low.first low.second);
     own = up;
-    reduced = rw (← same) reduced;
+    primitive = rw (← same) primitive;
   }

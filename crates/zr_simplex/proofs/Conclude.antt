@@ -17,7 +17,7 @@ use Rattle.zr_simplex.specs.Programs.{program_of, lp_rows, IsLp, numbers}
 use Rattle.zr_basis.specs.BasicForms.{value_column, right_column}
 use Rattle.zr_simplex.specs.Dues.{AreSlacks, IsTableau}
 use Rattle.zr_simplex.specs.Tableaus.{Equations, basis_of, form_of}
-use Rattle.zr_simplex.specs.Answers.{weighed, signed, IsLow, AreListed, IsFeasible, IsBest, IsEmpty, IsUnbounded, IsBasicPoint, IsBasicRay, AreOf}
+use Rattle.zr_simplex.specs.Answers.{weighed, signed, IsLow, AreListed, IsFeasiblePoint, IsBest, IsEmpty, IsUnbounded, IsBasicPoint, IsBasicRay, AreOf}
 use Rattle.zr_simplex.proofs.Forms.{solution_slacks, solution_value, solution_nonnegative, direction_slacks, direction_value, direction_nonnegative, free_if}
 use Rattle.zr_simplex.proofs.Low.{opposite_signs}
 
@@ -93,14 +93,14 @@ module _ (lp : Lp) (good : IsLp lp) where
         zero_or (negsuc n) b negated p q h =
             one_sign negated (negsuc n) b p q (h (λ e. cc))
 
-    pub feasible : (point : PointOf) → IsBasicPoint (program_of lp) (basis_of t) (form_of t) point → ((i : ℕ) → i < length lp.rows.items → (pos 0) ≤ℤ form_of t i (right_column (program_of lp))) → IsFeasible lp point
+    pub feasible : (point : PointOf) → IsBasicPoint (program_of lp) (basis_of t) (form_of t) point → ((i : ℕ) → i < length lp.rows.items → (pos 0) ≤ℤ form_of t i (right_column (program_of lp))) → IsFeasiblePoint lp point
     feasible point of rights =
         let slacks = solution_slacks (program_of lp) (basis_of t) (form_of t) kept.form kept.complete of.all point.den of.solution in
-        let up = solution_nonnegative (program_of lp) (basis_of t) (form_of t) kept.form kept.complete of.all point.den of.solution of.den rights in
+        let up = solution_nonnegative (program_of lp) (basis_of t) (form_of t) kept.form kept.complete of.all point.den of.solution rights in
         record {
           len = of.len;
           nonnegative = λ j h. rw (of.same j h) (up j (omega (arith, h)));
-          rows = (of.den, rows_hold of.all point.den (num_of point) slacks up of.same);
+          rows = (of.solution.positive, rows_hold of.all point.den (num_of point) slacks up of.same);
         }
 
     empty_column : (e v a s x : ℤ) → e ≡ s -ℤ v *ℤ a → v ≡ pos 0 → x ≡ s → x ≡ e
@@ -146,11 +146,11 @@ module _ (lp : Lp) (good : IsLp lp) where
     unbounded col point ray below point_of of rights above under =
         let free = free_if (program_of lp) (basis_of t) (form_of t) kept.form col (λ z. omega (arith, ints, above, z)) in
         let slacks = direction_slacks (program_of lp) (basis_of t) (form_of t) kept.form kept.complete col free below of.all of.raise of.direction in
-        let up = direction_nonnegative (program_of lp) (basis_of t) (form_of t) kept.form kept.complete col free below of.all of.raise of.direction of.positive under in
+        let up = direction_nonnegative (program_of lp) (basis_of t) (form_of t) kept.form kept.complete col free below of.all of.raise of.direction under in
         record {
           feasible = feasible point point_of rights;
           len = of.len;
           nonnegative = λ j h. rw (of.same j h) (up j (omega (arith, h)));
           rows = rows_hold of.all (pos 0) (numbers ray) slacks up of.same;
-          falls = rw (aim_same of.all (numbers ray) of.same) (direction_value (program_of lp) (basis_of t) (form_of t) kept.form kept.complete col free below of.all of.raise of.direction of.positive above);
+          falls = rw (aim_same of.all (numbers ray) of.same) (direction_value (program_of lp) (basis_of t) (form_of t) kept.form kept.complete col free below of.all of.raise of.direction above);
         }

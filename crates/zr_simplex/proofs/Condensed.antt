@@ -9,7 +9,7 @@ use Rattle.zr_base.specs.declared.step.Wide.{Wide}
 use Rattle.zr_simplex.specs.declared.columns.Column.{Column}
 use Rattle.zr_simplex.specs.declared.columns.Column.TheVariants.{Basic}
 use Rattle.zr_simplex.specs.Programs.{numbers}
-use Rattle.zr_basis.specs.BasicForms.{IsReduced}
+use Rattle.zr_basis.specs.BasicForms.{IsPrimitive}
 use Rattle.zr_simplex.specs.StuckSteps.{IsWidePivot}
 use Rattle.zr_simplex.specs.RowSteps.{IsExchange, IsMixture, IsPivot, IsQuotient, IsWideClear, entered, left, swapped}
 use Rattle.zr_simplex.specs.Tableaus.{AreColumns, IsPartition, column_at, number_at}
@@ -27,13 +27,13 @@ each_column part P off on j h =
     ⊎_elim (λ (x : (i : ℕ) × _ × _). subst P x.2 (on x.0 x.1)) (λ (x : (k : ℕ) × _ × _). subst P x.2 (off x.0 x.1)) (part.each j h)
 
 module _ {width : ℕ} {basis free : List ℕ} (part : IsPartition width basis free) (i : ℕ) (inside : i < length basis) where
-  pub reduced_in : (e xs : ℕ → ℤ) → Reads basis free i e xs → ((k : ℕ) → k < length basis → k ≢ i → e (slice_index basis k) ≡ pos 0) → IsReduced width e → IsReduced (length free + 1) xs
-  reduced_in e xs reads zeros reduced d all =
-      reduced d (each_column part (λ j. d ∣ unsigned_abs (e j)) (λ k h. rw (reads.off k h) (all k (omega (arith, h)))) (λ k h. ⊎_elim (λ (s : k ≡ i). rw (s, reads.own) (all (length free) (omega arith))) (λ (a : k ≢ i). rw (zeros k h a) (dvd-zero d)) (cases_eq k i)))
+  pub primitive_in : (e xs : ℕ → ℤ) → Reads basis free i e xs → ((k : ℕ) → k < length basis → k ≢ i → e (slice_index basis k) ≡ pos 0) → IsPrimitive width e → IsPrimitive (length free + 1) xs
+  primitive_in e xs reads zeros primitive d all =
+      primitive d (each_column part (λ j. d ∣ unsigned_abs (e j)) (λ k h. rw (reads.off k h) (all k (omega (arith, h)))) (λ k h. ⊎_elim (λ (s : k ≡ i). rw (s, reads.own) (all (length free) (omega arith))) (λ (a : k ≢ i). rw (zeros k h a) (dvd-zero d)) (cases_eq k i)))
 
-  pub reduced_out : (e xs : ℕ → ℤ) → Reads basis free i e xs → IsReduced (length free + 1) xs → IsReduced width e
-  reduced_out e xs reads reduced d all =
-      reduced d (λ k h. ⊎_elim (λ (s : k ≡ length free). rw (s, ← reads.own) (all (slice_index basis i) (part.basic_below i inside))) (λ (a : k ≢ length free). let q : k < length free = omega (arith, h, a) in rw (← reads.off k q) (all (slice_index free k) (part.free_below k q))) (cases_eq k (length free)))
+  pub primitive_out : (e xs : ℕ → ℤ) → Reads basis free i e xs → IsPrimitive (length free + 1) xs → IsPrimitive width e
+  primitive_out e xs reads primitive d all =
+      primitive d (λ k h. ⊎_elim (λ (s : k ≡ length free). rw (s, ← reads.own) (all (slice_index basis i) (part.basic_below i inside))) (λ (a : k ≢ length free). let q : k < length free = omega (arith, h, a) in rw (← reads.off k q) (all (slice_index free k) (part.free_below k q))) (cases_eq k (length free)))
 
   module _ (r : ℕ) (e f made xs fs ys : ℕ → ℤ) (at_e : Reads basis free i e xs) (at_f : Reads basis free i f fs) (at_made : Reads basis free i made ys) (zero_e : (k : ℕ) → k < length basis → k ≢ i → k ≢ r → e (slice_index basis k) ≡ pos 0) (zero_f : (k : ℕ) → k < length basis → k ≢ i → k ≢ r → f (slice_index basis k) ≡ pos 0) (zero_made : (k : ℕ) → k < length basis → k ≢ i → made (slice_index basis k) ≡ pos 0) where
     mixture_out : (mix : IsMixture (length free + 1) xs fs ys) → mix.by *ℤ e (slice_index basis r) ≡ mix.less *ℤ f (slice_index basis r) → IsMixture width e f made
@@ -173,11 +173,11 @@ module _ (basis free : List ℕ) (columns then : List Column) (are : AreColumns 
         cleared = λ i h a. rw next_here at (zero_then i (made i) r (rw next_long row) (λ e. a (sym e)));
         here = rw own_here exchange.here;
         own = λ i h a. rw (own_other i h a) (exchange.changed i h a).own;
-        reduced = λ i h. reduced_out part i (rw next_long h) (later i) (numbers (made i)) (reads_then i h (made i)) (rw off_long (reduced_at i h));
+        primitive = λ i h. primitive_out part i (rw next_long h) (later i) (numbers (made i)) (reads_then i h (made i)) (rw off_long (primitive_at i h));
       }
         where
-          reduced_at : (i : ℕ) → i < length basis → IsReduced (length free + 1) (numbers (made i))
-          reduced_at i h = ⊎_elim (λ (e : i ≡ r). rw e exchange.reduced) (λ (a : i ≢ r). (exchange.changed i h a).reduced) (cases_eq i r)
+          primitive_at : (i : ℕ) → i < length basis → IsPrimitive (length free + 1) (numbers (made i))
+          primitive_at i h = ⊎_elim (λ (e : i ≡ r). rw e exchange.primitive) (λ (a : i ≢ r). (exchange.changed i h a).primitive) (cases_eq i r)
 
     -- the column whose number comes at a place of equation i
     module _ (i : ℕ) (is_row : i < length basis) (apart : i ≢ r) (at col : ℕ) (within : at < length free + 1) (at_own : at ≡ length free → col ≡ slice_index basis i) (at_off : at ≢ length free → col ≡ slice_index (set free place (slice_index basis r)) at) where

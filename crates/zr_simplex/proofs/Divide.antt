@@ -8,7 +8,7 @@ use Rattle.std.specs.Int.{IsGcd, ◌∣◌}
 use Rattle.zr_base.specs.Steps.{IsNarrow}
 use Rattle.zr_base.proofs.Divisors.{positive_factor, cancel}
 use Rattle.zr_base.proofs.Ring.{neg-mul_right}
-use Rattle.zr_basis.specs.BasicForms.{IsReduced}
+use Rattle.zr_basis.specs.BasicForms.{IsPrimitive}
 use Rattle.zr_simplex.specs.Programs.{numbers}
 use Rattle.zr_simplex.specs.RowSteps.{IsGreatest}
 
@@ -31,9 +31,9 @@ greatest_bound n f g own greatest below apart narrow =
     omega (arith, le_of_dvd positive divides, narrow)
 
 -- a row without a common divisor has 1 as its greatest
-pub greatest_one : (n : ℕ) (f : ℕ → ℤ) → IsReduced n f → IsGreatest n f 1
-greatest_one n f reduced d =
-    (λ all. subst (λ k. k ∣ 1) (sym (reduced d all)) (dvd_refl 1), λ h. λ j q. dvd_trans d h (one-dvd (unsigned_abs (f j))))
+pub greatest_one : (n : ℕ) (f : ℕ → ℤ) → IsPrimitive n f → IsGreatest n f 1
+greatest_one n f primitive d =
+    (λ all. subst (λ k. k ∣ 1) (sym (primitive d all)) (dvd_refl 1), λ h. λ j q. dvd_trans d h (one-dvd (unsigned_abs (f j))))
 
 -- one number more is taken into the greatest common divisor
 pub greatest_more : (f : ℕ → ℤ) (i a g : ℕ) → IsGreatest i f a → IsGcd a (unsigned_abs (f i)) g → IsGreatest (i + 1) f g
@@ -50,8 +50,8 @@ one_if d h =
     let least : 0 < d = pos_of_dvd_of_pos h positive in
     omega (arith, le_of_dvd positive h)
 
-pub reduced_if : (n : ℕ) (f new : ℕ → ℤ) (by : ℤ) → by ≢ pos 0 → IsGreatest n f (unsigned_abs by) → ((j : ℕ) → j < n → new j *ℤ by ≡ f j) → IsReduced n new
-reduced_if n f new by apart greatest made d all =
+pub primitive_if : (n : ℕ) (f new : ℕ → ℤ) (by : ℤ) → by ≢ pos 0 → IsGreatest n f (unsigned_abs by) → ((j : ℕ) → j < n → new j *ℤ by ≡ f j) → IsPrimitive n new
+primitive_if n f new by apart greatest made d all =
     let least = apart_positive by apart in
     let each : (j : ℕ) → j < n → d * unsigned_abs by ∣ unsigned_abs (f j) = λ j h. subst (λ m. d * unsigned_abs by ∣ m) (sym (unsigned_abs-mul (new j) by) ∙ ap unsigned_abs (made j h)) (mul-dvd-mul_right d (all j h) (unsigned_abs by)) in
     one_if d (dvd_of_mul-dvd-mul_right d least (subst (λ m. d * unsigned_abs by ∣ m) (sym (one-mul (unsigned_abs by))) ((greatest (d * unsigned_abs by)).0 each)))

@@ -7,9 +7,9 @@ use Rattle.zr_base.specs.Sums.{sum_to}
 use Rattle.zr_base.proofs.Dense.{sum_to_same}
 use Rattle.zr_base.proofs.Divisors.{mul_positive}
 use Rattle.zr_basis.specs.Programs.{Program}
-use Rattle.zr_basis.specs.BasicForms.{right_column, CombinesEquations, IsBasicForm, IsReduced}
+use Rattle.zr_basis.specs.BasicForms.{right_column, CombinesEquations, IsBasicForm, IsPrimitive}
 use Rattle.zr_simplex.specs.Dues.{AreSlacks, HoldsAt, IsComplete}
-use Rattle.zr_simplex.specs.RowSteps.{IsMixture, IsStart}
+use Rattle.zr_simplex.specs.RowSteps.{IsMixture, IsFirstEquation}
 use Rattle.zr_simplex.specs.Appends.{IsExpressed, IsTakenOff, extended, first_rows}
 use Rattle.zr_simplex.proofs.Begin.{row_combination, row_slack}
 use Rattle.zr_simplex.proofs.Pivots.{held, mixture_combination, mixture_sum}
@@ -92,12 +92,12 @@ module _ (q : Program) (m : ℕ) (more : q.rows ≡ suc m) where
       let right = ap (λ y. y *ℤ d) (ap made end ∙ ext.right) in
       omega (arith, ints, s, z, whole, right)
 
-  module _ (basis next : ℕ → ℕ) (form made : ℕ → ℕ → ℤ) (basic : IsBasicForm (first_rows q m) basis form) (same : (i : ℕ) → i ≤ m → next i ≡ basis i) (last : next (suc m) ≡ q.columns + m + 1) (rows : (i : ℕ) → i < m → Extends (q.columns + m) (form i) (pos 0) (made i)) (value : Extends (q.columns + m) (form m) (pos 0) (made (suc m))) (combination : CombinesEquations q (made m)) (own : (pos 0) <ℤ made m (q.columns + m)) (cleared : (k : ℕ) → k < m → made m (basis k) ≡ pos 0) (no_value : made m (q.columns + m + 1) ≡ pos 0) (reduced : IsReduced (q.columns + m + 3) (made m)) where
+  module _ (basis next : ℕ → ℕ) (form made : ℕ → ℕ → ℤ) (basic : IsBasicForm (first_rows q m) basis form) (same : (i : ℕ) → i ≤ m → next i ≡ basis i) (last : next (suc m) ≡ q.columns + m + 1) (rows : (i : ℕ) → i < m → Extends (q.columns + m) (form i) (pos 0) (made i)) (value : Extends (q.columns + m) (form m) (pos 0) (made (suc m))) (combination : CombinesEquations q (made m)) (own : (pos 0) <ℤ made m (q.columns + m)) (cleared : (k : ℕ) → k < m → made m (basis k) ≡ pos 0) (no_value : made m (q.columns + m + 1) ≡ pos 0) (primitive : IsPrimitive (q.columns + m + 3) (made m)) where
     in_old : (k : ℕ) → k < m → basis k < q.columns + m
     in_old k h = basic.columns k h
 
-    reduced_old : (e f : ℕ → ℤ) → Extends (q.columns + m) e (pos 0) f → IsReduced (q.columns + m + 2) e → IsReduced (q.columns + m + 3) f
-    reduced_old e f ext red d all =
+    primitive_old : (e f : ℕ → ℤ) → Extends (q.columns + m) e (pos 0) f → IsPrimitive (q.columns + m + 2) e → IsPrimitive (q.columns + m + 3) f
+    primitive_old e f ext red d all =
         red d (λ j h. ⊎_elim (λ (a : j < q.columns + m). rw (← ext.below j a) (all j (omega arith))) (λ (a : q.columns + m ≤ j). ⊎_elim (λ (b : j ≡ q.columns + m). rw (b, ← ext.value) (all (q.columns + m + 1) (omega arith))) (λ (b : j ≢ q.columns + m). let s : j ≡ q.columns + m + 1 = omega arith in rw (s, ← ext.right) (all (q.columns + m + 2) (omega arith))) (cases_eq j (q.columns + m))) (cases_lt j (q.columns + m)))
 
     -- the number of an old equation at a column of the next basis
@@ -127,14 +127,14 @@ module _ (q : Program) (m : ℕ) (more : q.rows ≡ suc m) where
         let long : q.columns + q.rows + 2 ≡ q.columns + m + 3 = omega (arith, more) in
         let combinations = each (λ i. CombinesEquations q (made i)) (λ i h. old_combination (form i) (made i) (basic.combination i (omega arith)) (rows i h)) combination (old_combination (form m) (made (suc m)) (basic.combination m (omega arith)) value) in
         let owns = each (λ i. (pos 0) <ℤ made i (next i)) (λ i h. rw (same i (omega arith), (rows i h).below (basis i) (in_old i h)) (basic.own i (omega arith))) (rw (same m (omega arith), basic.value) own) (rw (last, value.value, ← basic.value) (basic.own m (omega arith))) in
-        let all_reduced = each (λ i. IsReduced (q.columns + m + 3) (made i)) (λ i h. reduced_old (form i) (made i) (rows i h) (basic.reduced i (omega arith))) reduced (reduced_old (form m) (made (suc m)) value (basic.reduced m (omega arith))) in
+        let all_primitive = each (λ i. IsPrimitive (q.columns + m + 3) (made i)) (λ i h. primitive_old (form i) (made i) (rows i h) (basic.primitive i (omega arith))) primitive (primitive_old (form m) (made (suc m)) value (basic.primitive m (omega arith))) in
         record {
           columns = λ i h. let b = columns_of i (omega (arith, h, more)) in omega (arith, b, more);
           value = ap next more ∙ last ∙ omega (arith, more);
           combination = λ i h. combinations i (omega (arith, h, more));
           own = λ i h. owns i (omega (arith, h, more));
           other = λ i k h r apart. each (λ i. i ≢ k → made i (next k) ≡ pos 0) (λ i b. row_zero i b k (omega (arith, r, more))) (new_zero k (omega (arith, r, more))) (value_zero k (omega (arith, r, more))) i (omega (arith, h, more)) apart;
-          reduced = λ i h. rw long (all_reduced i (omega (arith, h, more)));
+          primitive = λ i h. rw long (all_primitive i (omega (arith, h, more)));
         }
 
     pub enlarged_complete : IsComplete (first_rows q m) form → ((x : ℕ → ℤ) (d : ℤ) → ((i : ℕ) → i < m → HoldsAt q (made i) x d) → HoldsAt q (made m) x d → sum_to q.columns (λ j. q.coef m j *ℤ x j) +ℤ x (q.columns + m) ≡ q.le m *ℤ d) → IsComplete q made
@@ -143,7 +143,7 @@ module _ (q : Program) (m : ℕ) (more : q.rows ≡ suc m) where
         ⊎_elim (λ (a : r < m). old r a) (λ (a : m ≤ r). let s : r ≡ m = omega (arith, h, more) in rw s (recovers x d (λ i b. holds i (omega (arith, b, more))) (holds m (omega (arith, more))))) (cases_lt r m)
 
   -- the row itself over the columns of the program with it
-  pub raw_start : (u : ℕ → ℤ) → IsStart q.columns (q.columns + m) (q.columns + m + 2) (q.coef m) (q.le m) u → IsStart q.columns (q.columns + q.rows) (q.columns + m) (q.coef m) (q.le m) (extended (q.columns + m) u (u (q.columns + m + 2)))
+  pub raw_start : (u : ℕ → ℤ) → IsFirstEquation q.columns (q.columns + m) (q.columns + m + 2) (q.coef m) (q.le m) u → IsFirstEquation q.columns (q.columns + q.rows) (q.columns + m) (q.coef m) (q.le m) (extended (q.columns + m) u (u (q.columns + m + 2)))
   raw_start u start =
       let ext = extends (q.columns + m) u (u (q.columns + m + 2)) in
       let made = extended (q.columns + m) u (u (q.columns + m + 2)) in
@@ -156,7 +156,7 @@ module _ (q : Program) (m : ℕ) (more : q.rows ≡ suc m) where
       }
 
   -- the row itself, before a column is cleared
-  module _ (u : ℕ → ℤ) (start : IsStart q.columns (q.columns + q.rows) (q.columns + m) (q.coef m) (q.le m) (extended (q.columns + m) u (u (q.columns + m + 2)))) where
+  module _ (u : ℕ → ℤ) (start : IsFirstEquation q.columns (q.columns + q.rows) (q.columns + m) (q.coef m) (q.le m) (extended (q.columns + m) u (u (q.columns + m + 2)))) where
     in_rows : m < q.rows
     in_rows = omega (arith, more)
 

@@ -4,7 +4,7 @@ use Rattle.std.proofs.lemmas.Bool.{cases_eq, cases_lt}
 use Rattle.zr_simplex.specs.declared.columns.Column.{Column}
 use Rattle.zr_simplex.specs.declared.columns.Column.TheVariants.{Basic, Free}
 use Rattle.zr_simplex.specs.Programs.{numbers}
-use Rattle.zr_simplex.specs.RowSteps.{IsFirst, IsStart}
+use Rattle.zr_simplex.specs.RowSteps.{IsFirst, IsFirstEquation}
 use Rattle.zr_simplex.specs.Tableaus.{AreColumns, Holds, column_at}
 use Rattle.zr_simplex.proofs.Condensed.{full, full_free, full_own, full_zero}
 
@@ -49,7 +49,7 @@ module _ {n m : ℕ} {basis free : List ℕ} {columns : List Column} (are : AreF
         let q : k < m + 1 = omega arith in
         ap form (e ∙ sym (are.slacks k q)) ∙ full_zero are_columns i xs k (rw are.basis_long q) (λ s. other (omega (arith, s, e)))
 
-    pub first_start : IsStart n (n + m) (n + i) coef le (full columns (length free) i xs)
+    pub first_start : IsFirstEquation n (n + m) (n + i) coef le (full columns (length free) i xs)
     first_start = record {
       coefs = λ j h. ap form (sym (are.off j h)) ∙ full_free are_columns i xs j (omega (arith, are.free_long, h)) ∙ first.coefs j h;
       one = own_value;

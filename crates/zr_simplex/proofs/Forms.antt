@@ -79,11 +79,11 @@ module _ (p : Program) (basis : ℕ → ℕ) (form : ℕ → ℕ → ℤ) (basic
         omega (arith, ints, all, none)
 
     -- it isn't negative where no right side is
-    pub solution_nonnegative : (pos 0) <ℤ d → ((i : ℕ) → i < p.rows → (pos 0) ≤ℤ form i (right_column p)) → (j : ℕ) → j < p.columns + p.rows → (pos 0) ≤ℤ x j
-    solution_nonnegative positive rights j q = ⊎_elim (λ (f : (k : ℕ) × (k < p.rows) × (j ≡ basis k)). on f) (λ (out : (k : ℕ) → k < p.rows → j ≢ basis k). rw (solution.off j q out) (omega (arith, ints))) (in_basis basis p.rows j)
+    pub solution_nonnegative : ((i : ℕ) → i < p.rows → (pos 0) ≤ℤ form i (right_column p)) → (j : ℕ) → j < p.columns + p.rows → (pos 0) ≤ℤ x j
+    solution_nonnegative rights j q = ⊎_elim (λ (f : (k : ℕ) × (k < p.rows) × (j ≡ basis k)). on f) (λ (out : (k : ℕ) → k < p.rows → j ≢ basis k). rw (solution.off j q out) (omega (arith, ints))) (in_basis basis p.rows j)
       where
         on : ((k : ℕ) × (k < p.rows) × (j ≡ basis k)) → (pos 0) ≤ℤ x j
-        on f = rw f.2 (nonnegative_factor (form f.0 (basis f.0)) (x (basis f.0)) (basic.own f.0 (omega (arith, f.1))) (rw (solution.on f.0 f.1) (nonnegative_mul (form f.0 (right_column p)) d (rights f.0 f.1) (omega (arith, ints, positive)))))
+        on f = rw f.2 (nonnegative_factor (form f.0 (basis f.0)) (x (basis f.0)) (basic.own f.0 (omega (arith, f.1))) (rw (solution.on f.0 f.1) (nonnegative_mul (form f.0 (right_column p)) d (rights f.0 f.1) (let up = solution.positive in omega (arith, ints, up)))))
 
   -- column col isn't in the basis, and x raises it
   module _ (complete : IsComplete p form) (col : ℕ) (free : (k : ℕ) → k < p.rows → col ≢ basis k) (below : col < p.columns + p.rows) (x : ℕ → ℤ) (d : ℤ) (direction : IsBasicDirection p basis form col x d) where
@@ -103,21 +103,21 @@ module _ (p : Program) (basis : ℕ → ℕ) (form : ℕ → ℕ → ℤ) (basic
         complete x (pos 0) (λ i h. sum_to-double (p.columns + p.rows) (basis i) col (λ j. form i j *ℤ x j) (basic.columns i h) below (λ e. free i h (sym e)) (off_both i (omega arith)) ∙ ap (λ z. form i (basis i) *ℤ x (basis i) +ℤ form i col *ℤ z) direction.raised ∙ level (form i (basis i)) (x (basis i)) (form i col) (direction.on i h) ∙ omega (arith, ints))
 
     -- the aim falls along it where the value's equation is above zero at the column
-    pub direction_value : (pos 0) <ℤ d → (pos 0) <ℤ form p.rows col → aim_at p x <ℤ (pos 0)
-    direction_value positive above =
+    pub direction_value : (pos 0) <ℤ form p.rows col → aim_at p x <ℤ (pos 0)
+    direction_value above =
         let all = combination_holds p (form p.rows) (basic.combination p.rows (omega arith)) x (pos 0) direction_slacks in
         let one = sum_to-single (p.columns + p.rows) col (λ j. form p.rows j *ℤ x j) below (λ j h other. off_both p.rows (omega arith) j h (λ e. let v = basic.value in omega (arith, v, e)) other) in
-        let up = mul_positive (form p.rows col) d above positive in
+        let up = mul_positive (form p.rows col) d above direction.positive in
         let at = ap (λ z. form p.rows col *ℤ z) direction.raised in
         let own : (pos 0) <ℤ form p.rows (value_column p) = rw (← basic.value) (basic.own p.rows (omega arith)) in
         negative_factor (form p.rows (value_column p)) (aim_at p x) own (omega (arith, ints, all, one, up, at))
 
     -- it isn't negative where no equation of a row is above zero at the column
-    pub direction_nonnegative : (pos 0) <ℤ d → ((i : ℕ) → i < p.rows → form i col ≤ℤ (pos 0)) → (j : ℕ) → j < p.columns + p.rows → (pos 0) ≤ℤ x j
-    direction_nonnegative positive under j q = ⊎_elim (λ (f : (k : ℕ) × (k < p.rows) × (j ≡ basis k)). on f) (λ (out : (k : ℕ) → k < p.rows → j ≢ basis k). ⊎_elim (λ (e : j ≡ col). rw (e, direction.raised) (omega (arith, ints, positive))) (λ (other : j ≢ col). rw (direction.off j q other out) (omega (arith, ints))) (cases_eq j col)) (in_basis basis p.rows j)
+    pub direction_nonnegative : ((i : ℕ) → i < p.rows → form i col ≤ℤ (pos 0)) → (j : ℕ) → j < p.columns + p.rows → (pos 0) ≤ℤ x j
+    direction_nonnegative under j q = ⊎_elim (λ (f : (k : ℕ) × (k < p.rows) × (j ≡ basis k)). on f) (λ (out : (k : ℕ) → k < p.rows → j ≢ basis k). ⊎_elim (λ (e : j ≡ col). rw (e, direction.raised) (let up = direction.positive in omega (arith, ints, up))) (λ (other : j ≢ col). rw (direction.off j q other out) (omega (arith, ints))) (cases_eq j col)) (in_basis basis p.rows j)
       where
         on : ((k : ℕ) × (k < p.rows) × (j ≡ basis k)) → (pos 0) ≤ℤ x j
-        on f = rw f.2 (nonnegative_factor (form f.0 (basis f.0)) (x (basis f.0)) (basic.own f.0 (omega (arith, f.1))) (rw (direction.on f.0 f.1) (nonnegative_mul (neg_ℤ (form f.0 col)) d (let u = under f.0 f.1 in omega (arith, ints, u)) (omega (arith, ints, positive)))))
+        on f = rw f.2 (nonnegative_factor (form f.0 (basis f.0)) (x (basis f.0)) (basic.own f.0 (omega (arith, f.1))) (rw (direction.on f.0 f.1) (nonnegative_mul (neg_ℤ (form f.0 col)) d (let u = under f.0 f.1 in omega (arith, ints, u)) (let up = direction.positive in omega (arith, ints, up)))))
 
   -- a column where the value's equation isn't zero is off the basis
   pub free_if : (col : ℕ) → form p.rows col ≢ pos 0 → (k : ℕ) → k < p.rows → col ≢ basis k

@@ -9,16 +9,15 @@ use Rattle.zr_basis.specs.Programs.{Program}
 use Rattle.zr_basis.specs.BasicForms.{value_column, IsBasicForm}
 use Rattle.zr_basis.specs.Bases.{Exchanges}
 use Rattle.zr_basis.specs.Choices.{choose}
-use Rattle.zr_basis.specs.Stages.{Determines, Stage, IsFeasibleForm}
+use Rattle.zr_basis.specs.Stages.{Stage, IsFeasibleForm}
 use Rattle.zr_basis.specs.Primal.{IsPrimalDue}
 use Rattle.zr_basis.specs.Dual.{IsDualDue}
 use Rattle.zr_basis.specs.Runs.{Run, end_of, turn_of}
 use Rattle.zr_basis.proofs.Signs.{side}
-use Rattle.zr_basis.proofs.Unique.{exchange_determines, slacks_determine}
 use Rattle.zr_basis.proofs.Runs.{few_in_stages, feasible_from}
 use Rattle.zr_basis.proofs.Extended.{at_slacks, by_dual, by_primal, turn_here}
 use Rattle.zr_simplex.specs.Causes.{CountsFew, CountsPivots, CountsUp, IsPivotDue}
-use Rattle.zr_simplex.specs.Dues.{IsEnd, IsStart, IsMendingDue, IsImprovingDue}
+use Rattle.zr_simplex.specs.Dues.{IsEnd, IsStartBasis, IsMendingDue, IsImprovingDue}
 use Rattle.zr_simplex.specs.Halts.{HasRun}
 use Rattle.zr_simplex.specs.declared.choose.Due.{Due}
 use Rattle.zr_simplex.specs.declared.choose.Due.TheVariants.{Best, Empty, Unbounded, Pivot}
@@ -68,18 +67,6 @@ pub few_pivots : (p : Program) (run : Run p) → run.pivots < choose (value_colu
 few_pivots p run = few_in_stages p run.turn run.pivots run.stage run.follows
 
 module _ (p : Program) (old new : Purse) (n : ℕ) (basis : ℕ → ℕ) (form : ℕ → ℕ → ℤ) where
-  determined : (run : Run p) → (end_of p run).basis ≡ basis → Determines p basis
-  determined run e = subst (λ b. Determines p b) e (end_of p run).determines
-
-  -- the stage that an exchange leads to
-  abbrev next_stage : (run : Run p) → (end_of p run).basis ≡ basis → IsBasicForm p basis form → (row col : ℕ) → row < p.rows → col < value_column p → form row col ≢ pos 0 → (next : ℕ → ℕ) (made : ℕ → ℕ → ℤ) → IsBasicForm p next made → Exchanges basis row col next → Stage p
-  next_stage run e basic row col inside column apart next made after exchange = record {
-    basis = next;
-    form = made;
-    basic = after;
-    determines = exchange_determines p basis form basic (determined run e) row col inside column apart next exchange;
-  }
-
   pub mending_few : IsMending p old new n basis form → n < choose (value_column p) p.rows
   mending_few state = subst (λ m. m < choose (value_column p) p.rows) state.pivots (few_pivots p state.run)
 
@@ -114,15 +101,14 @@ module _ (p : Program) (old new : Purse) (n : ℕ) (basis : ℕ → ℕ) (form :
   pub improving_feasible : (start : List ℕ) → IsImproving p old new n basis form start → IsFeasibleForm p form
   improving_feasible start state = subst (λ f. IsFeasibleForm p f) state.form_is (feasible_from p state.run.turn state.run.pivots state.run.stage state.run.follows state.run.pivots state.after (omega arith))
 
-  pub improving_start : (start : List ℕ) → IsImproving p old new n basis form start → IsStart p start
+  pub improving_start : (start : List ℕ) → IsImproving p old new n basis form start → IsStartBasis p start
   improving_start start state = (state.start_long, λ i h. subst (λ b. b i < value_column p) state.start_is ((turn_of p state.run).basic.columns i h))
 
   -- one pivot more
   module _ (last : Purse) (counts : Spends new last APivot) (basic : IsBasicForm p basis form) (row col : ℕ) (next : ℕ → ℕ) (made : ℕ → ℕ → ℤ) (after : IsBasicForm p next made) (exchange : Exchanges basis row col next) where
     pub mending_more : IsMending p old new n basis form → IsDualDue p basis form row col → IsMending p old last (n + 1) next made
     mending_more state due =
-        let apart : form row col ≢ pos 0 = λ e. let under = due.under in omega (arith, ints, under, e) in
-        let stage = next_stage state.run state.basis_is basic row col due.below due.column apart next made after exchange in
+        let stage : Stage p = record { basis = next; form = made; basic = after } in
         let more = by_dual p state.run state.before stage (row, col, rw (state.basis_is, state.form_is) due, rw state.basis_is exchange) in
         record {
           run = more.0;
@@ -135,8 +121,7 @@ module _ (p : Program) (old new : Purse) (n : ℕ) (basis : ℕ → ℕ) (form :
 
     pub improving_more : (start : List ℕ) → IsImproving p old new n basis form start → IsPrimalDue p (λ i. slice_index start i) form row col → IsImproving p old last (n + 1) next made start
     improving_more start state due =
-        let apart : form row col ≢ pos 0 = λ e. let above = due.above in omega (arith, ints, above, e) in
-        let stage = next_stage state.run state.basis_is basic row col due.below due.column apart next made after exchange in
+        let stage : Stage p = record { basis = next; form = made; basic = after } in
         let more = by_primal p state.run state.after stage (row, col, rw (state.start_is, state.form_is) due, rw state.basis_is exchange) in
         record {
           run = more.0;
@@ -156,7 +141,6 @@ begins p purse basis form basic slacks =
       basis = basis;
       form = form;
       basic = basic;
-      determines = slacks_determine p basis slacks;
     } in
     record {
       run = at_slacks p stage slacks;
@@ -191,7 +175,7 @@ pub going_counts : {V : Type 0} (start : Option V) (items : V → List ℕ) (p :
 going_counts None items p old new n basis form state = state.counts
 going_counts (Some kept) items p old new n basis form state = state.counts
 
-pub going_ready : {V : Type 0} (start : Option V) (items : V → List ℕ) (p : Program) (old new : Purse) (n : ℕ) (basis : ℕ → ℕ) (form : ℕ → ℕ → ℤ) → IsGoing start items p old new n basis form → MatchOption start (Unit {0}) (λ kept. IsStart p (items kept) × IsFeasibleForm p form)
+pub going_ready : {V : Type 0} (start : Option V) (items : V → List ℕ) (p : Program) (old new : Purse) (n : ℕ) (basis : ℕ → ℕ) (form : ℕ → ℕ → ℤ) → IsGoing start items p old new n basis form → MatchOption start (Unit {0}) (λ kept. IsStartBasis p (items kept) × IsFeasibleForm p form)
 going_ready None items p old new n basis form state = tt
 going_ready (Some kept) items p old new n basis form state = (
   improving_start p old new n basis form (items kept) state,

@@ -5,11 +5,11 @@ use Rattle.std.proofs.lemmas.Int.{ints}
 use Rattle.zr_simplex.specs.declared.columns.Column.{Column}
 use Rattle.zr_simplex.specs.declared.columns.Column.TheVariants.{Basic, Free}
 use Rattle.zr_simplex.specs.Programs.{numbers}
-use Rattle.zr_basis.specs.BasicForms.{IsReduced}
+use Rattle.zr_basis.specs.BasicForms.{IsPrimitive}
 use Rattle.zr_simplex.specs.RowSteps.{IsPivot, IsSolved}
 use Rattle.zr_simplex.specs.Tableaus.{AreColumns, Holds, column_at, form_in, number_at, row_in}
 use Rattle.zr_simplex.proofs.Stands.{partition_of}
-use Rattle.zr_simplex.proofs.Condensed.{full_own, full_reads, full_zero, reduced_in, zero_number}
+use Rattle.zr_simplex.proofs.Condensed.{full_own, full_reads, full_zero, primitive_in, zero_number}
 
 module _ {basis free : List ℕ} {columns : List Column} (are : AreColumns basis free columns) (all : List ℤ) (solved : IsSolved (length basis) (length columns) (λ i. slice_index basis i) (form_in columns (length free) all)) where
   abbrev row : ℕ → List ℤ
@@ -18,8 +18,8 @@ module _ {basis free : List ℕ} {columns : List Column} (are : AreColumns basis
   pub above_in : (i : ℕ) → i < length basis → (pos 0) <ℤ numbers (row_in (length free + 1) all i) (length free)
   above_in i h = rw (full_own are i (row i) h) at (solved.own i h)
 
-  pub reduced_each : (i : ℕ) → i < length basis → IsReduced (length free + 1) (numbers (row_in (length free + 1) all i))
-  reduced_each i h = reduced_in (partition_of are) i h (form_in columns (length free) all i) (numbers (row i)) (full_reads are i (row i) h) (full_zero are i (row i)) (solved.reduced i h)
+  pub primitive_each : (i : ℕ) → i < length basis → IsPrimitive (length free + 1) (numbers (row_in (length free + 1) all i))
+  primitive_each i h = primitive_in (partition_of are) i h (form_in columns (length free) all i) (numbers (row i)) (full_reads are i (row i) h) (full_zero are i (row i)) (solved.primitive i h)
 
 -- a pivot at an equation's own column changes nothing
 pub own_pivot : (count width : ℕ) (basis : ℕ → ℕ) (form : ℕ → ℕ → ℤ) (r col : ℕ) → IsSolved count width basis form → r < count → basis r ≡ col → IsPivot count width basis form r col form
@@ -29,7 +29,7 @@ own_pivot count width basis form r col solved row is = record {
   cleared = λ i h a. rw (← is) (solved.other i r h row a);
   here = rw (← is) (solved.own r row);
   own = λ i h a. solved.own i h;
-  reduced = solved.reduced;
+  primitive = solved.primitive;
 }
 
 -- a column of the basis at which an equation isn't zero is its own

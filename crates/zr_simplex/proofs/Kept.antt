@@ -14,7 +14,7 @@ solved_of p t kept = record {
   places = λ i h. ⊎_elim (λ (s : i ≡ p.rows). let v = kept.form.value in rw s (omega (arith, v, kept.width))) (λ (a : i ≢ p.rows). let c = kept.form.columns i (omega (arith, h, kept.count)) in omega (arith, c, kept.width)) (cases_eq i p.rows);
   own = λ i h. kept.form.own i (omega (arith, h, kept.count));
   other = λ i k h q apart. kept.form.other i k (omega (arith, h, kept.count)) (omega (arith, q, kept.count)) apart;
-  reduced = λ i h. rw kept.width (kept.form.reduced i (omega (arith, h, kept.count)));
+  primitive = λ i h. rw kept.width (kept.form.primitive i (omega (arith, h, kept.count)));
 }
 
 pub zeros_at : (xs : List ℤ) (j : ℕ) → All (λ z. z ≡ pos 0) xs → numbers xs j ≡ pos 0

@@ -5,98 +5,23 @@ use Rattle.std.proofs.lemmas.Bool.{cases_eq}
 use Rattle.zr_base.proofs.Ring.{spread}
 use Rattle.zr_base.proofs.Divisors.{cancel, mul_positive}
 use Rattle.zr_basis.specs.Programs.{Program}
-use Rattle.zr_basis.specs.BasicForms.{IsBasicForm, IsBasicDirection}
+use Rattle.zr_basis.specs.BasicForms.{value_column, IsBasicForm, IsBasicDirection}
 use Rattle.zr_simplex.specs.Dues.{AreSlacks, IsComplete}
+use Rattle.zr_basis.proofs.Solved.{direction}
 use Rattle.zr_simplex.proofs.Sums.{sum_to-single}
 use Rattle.zr_simplex.proofs.Forms.{direction_slacks, in_basis}
 
--- the first number where n is m, and else the second
-pick : {n m : ℕ} → (n ≡ m) ⊎ (n ≢ m) → ℤ → ℤ → ℤ
-pick (inl e) a b = a
-pick (inr a≢) a b = b
-
-pick_same : {n m : ℕ} (s : (n ≡ m) ⊎ (n ≢ m)) (a b : ℤ) → n ≡ m → pick s a b ≡ a
-unfolding pick
-pick_same (inl e) a b h = refl
-pick_same (inr apart) a b h = absurd (apart h)
-
-pick_other : {n m : ℕ} (s : (n ≡ m) ⊎ (n ≢ m)) (a b : ℤ) → n ≢ m → pick s a b ≡ b
-unfolding pick
-pick_other (inl e) a b h = absurd (h e)
-pick_other (inr apart) a b h = refl
-
--- a common multiple of numbers above zero, and what each is to be multiplied by
-record HasMultiple (n : ℕ) (own : ℕ → ℤ) : Type 0 where
-  den : ℤ
-  positive : (pos 0) <ℤ den
-  part : ℕ → ℤ
-  exact : (i : ℕ) → i < n → own i *ℤ part i ≡ den
-
-has_multiple : (n : ℕ) (own : ℕ → ℤ) → ((i : ℕ) → i < n → (pos 0) <ℤ own i) → HasMultiple n own
-has_multiple zero own above = record {
-  den = pos 1;
-  positive = omega (arith, ints);
-  part = λ i. pos 0;
-  exact = λ i h. absurd (omega arith);
-}
-has_multiple (suc n) own above =
-    let m = has_multiple n own (λ i h. above i (omega arith)) in
-    record {
-      den = m.den *ℤ own n;
-      positive = mul_positive m.den (own n) m.positive (above n (omega arith));
-      part = λ i. pick (cases_eq i n) m.den (m.part i *ℤ own n);
-      exact = λ i h. ⊎_elim (λ (e : i ≡ n). rw (pick_same (cases_eq i n) m.den (m.part i *ℤ own n) e, e) (simp spread refl)) (λ (a : i ≢ n). rw (pick_other (cases_eq i n) m.den (m.part i *ℤ own n) a, ← m.exact i (omega arith)) (simp spread refl)) (cases_eq i n);
-    }
-
--- the weight of the basis column that j is, and zero off the basis
-module _ (basis : ℕ → ℕ) (n : ℕ) (weight : ℕ → ℤ) where
-  place : (j : ℕ) → ((k : ℕ) × (k < n) × (j ≡ basis k)) ⊎ ((k : ℕ) → k < n → j ≢ basis k) → ℤ
-  place j (inl f) = weight f.0
-  place j (inr out) = pos 0
-
-  place_off : (j : ℕ) (s : ((k : ℕ) × (k < n) × (j ≡ basis k)) ⊎ ((k : ℕ) → k < n → j ≢ basis k)) → ((k : ℕ) → k < n → j ≢ basis k) → place j s ≡ pos 0
-  unfolding place
-  place_off j (inl f) out = absurd (out f.0 f.1 f.2)
-  place_off j (inr o) out = refl
-
-  place_on : (i : ℕ) → i < n → ((k : ℕ) → k < n → k ≢ i → basis i ≢ basis k) → (s : ((k : ℕ) × (k < n) × (basis i ≡ basis k)) ⊎ ((k : ℕ) → k < n → basis i ≢ basis k)) → place (basis i) s ≡ weight i
-  unfolding place
-  place_on i h apart (inl f) = ⊎_elim (λ (e : f.0 ≡ i). ap weight e) (λ (a : f.0 ≢ i). absurd (apart f.0 f.1 a f.2)) (cases_eq f.0 i)
-  place_on i h apart (inr out) = absurd (out i h refl)
-
 module _ (p : Program) (basis : ℕ → ℕ) (form : ℕ → ℕ → ℤ) (basic : IsBasicForm p basis form) (complete : IsComplete p form) where
-  apart_columns : (i : ℕ) → i < p.rows → (k : ℕ) → k < p.rows → k ≢ i → basis i ≢ basis k
-  apart_columns i h k q apart e =
-      let z = basic.other k i (omega arith) (omega arith) apart in
-      let o = basic.own k (omega arith) in
-      let s = ap (form k) e in
-      omega (arith, ints, z, o, s)
-
   -- a column off the basis has a basic direction
   record HasDirection (col : ℕ) : Type 0 where
     x : ℕ → ℤ
     d : ℤ
-    positive : (pos 0) <ℤ d
     direction : IsBasicDirection p basis form col x d
 
-  numerator : (own part den z : ℤ) → own *ℤ part ≡ den → own *ℤ (neg_ℤ z *ℤ part) ≡ neg_ℤ z *ℤ den
-  numerator own part den z e = rw (← e) (simp spread refl)
-
-  has_direction : (col : ℕ) → ((k : ℕ) → k < p.rows → col ≢ basis k) → HasDirection col
-  has_direction col free =
-      let m = has_multiple p.rows (λ i. form i (basis i)) (λ i h. basic.own i (omega arith)) in
-      let weight : ℕ → ℤ = λ i. neg_ℤ (form i col) *ℤ m.part i in
-      let x : ℕ → ℤ = λ j. pick (cases_eq j col) m.den (place basis p.rows weight j (in_basis basis p.rows j)) in
-      record {
-        x = x;
-        d = m.den;
-        positive = m.positive;
-        direction = record {
-          raised = pick_same (cases_eq col col) m.den (place basis p.rows weight col (in_basis basis p.rows col)) refl;
-          on = λ i h. ap (λ z. form i (basis i) *ℤ z) (pick_other (cases_eq (basis i) col) m.den (place basis p.rows weight (basis i) (in_basis basis p.rows (basis i))) (λ e. free i h (sym e)) ∙ place_on basis p.rows weight i h (apart_columns i h) (in_basis basis p.rows (basis i))) ∙ numerator (form i (basis i)) (m.part i) m.den (form i col) (m.exact i h);
-          off = λ j h other out. pick_other (cases_eq j col) m.den (place basis p.rows weight j (in_basis basis p.rows j)) other ∙ place_off basis p.rows weight j (in_basis basis p.rows j) out;
-        };
-      }
+  has_direction : (col : ℕ) → col < value_column p → ((k : ℕ) → k < p.rows → col ≢ basis k) → HasDirection col
+  has_direction col below free =
+      let found = direction p basis form basic col (below, free) in
+      record { x = found.0; d = found.1; direction = found.2 }
 
   module _ (r v : ℕ) (row : r < p.rows) (column : v < p.columns) (minus : p.coef r v ≡ negsuc 0) (only : (j : ℕ) → j ≢ v → p.coef r j ≡ pos 0) where
     -- the slack goes with the column
@@ -136,27 +61,27 @@ module _ (p : Program) (basis : ℕ → ℕ) (form : ℕ → ℕ → ℤ) (basic
           v_in f =
               let same : f.0 ≡ k = only_k v f.0 first f.1 f.2 in
               let free = other_free v (p.columns + r) f.0 second f.1 same f.2 differ in
-              let way = has_direction (p.columns + r) free in
+              let way = has_direction (p.columns + r) (omega (arith, row)) free in
               let slacks = direction_slacks p basis form basic complete (p.columns + r) free (omega (arith, row)) way.x way.d way.direction in
               let e : way.x v ≡ way.d = sym (level way.x slacks) ∙ way.direction.raised in
               let on = seen way.x f.0 k v (basis f.0) (p.columns + r) way.d same f.2 (way.direction.on f.0 f.1) in
-              opposite (form k v) (form k (p.columns + r)) way.d (way.x v) way.positive on e
+              opposite (form k v) (form k (p.columns + r)) way.d (way.x v) way.direction.positive on e
 
           b_in : ((i : ℕ) → i < p.rows → v ≢ basis i) → ((i : ℕ) × (i < p.rows) × (p.columns + r ≡ basis i)) → form k v ≡ neg_ℤ (form k (p.columns + r))
           b_in free g =
               let same : g.0 ≡ k = only_k (p.columns + r) g.0 second g.1 g.2 in
-              let way = has_direction v free in
+              let way = has_direction v (omega (arith, column)) free in
               let slacks = direction_slacks p basis form basic complete v free (omega (arith, column)) way.x way.d way.direction in
               let e : way.x (p.columns + r) ≡ way.d = level way.x slacks ∙ way.direction.raised in
               let on = seen way.x g.0 k (p.columns + r) (basis g.0) v way.d same g.2 (way.direction.on g.0 g.1) in
-              let s = opposite (form k (p.columns + r)) (form k v) way.d (way.x (p.columns + r)) way.positive on e in
+              let s = opposite (form k (p.columns + r)) (form k v) way.d (way.x (p.columns + r)) way.direction.positive on e in
               omega (arith, ints, s)
 
           none : ((i : ℕ) → i < p.rows → v ≢ basis i) → ((i : ℕ) → i < p.rows → p.columns + r ≢ basis i) → form k v ≡ neg_ℤ (form k (p.columns + r))
           none free off =
-              let way = has_direction v free in
+              let way = has_direction v (omega (arith, column)) free in
               let slacks = direction_slacks p basis form basic complete v free (omega (arith, column)) way.x way.d way.direction in
               let e : way.x (p.columns + r) ≡ way.d = level way.x slacks ∙ way.direction.raised in
               let z : way.x (p.columns + r) ≡ pos 0 = way.direction.off (p.columns + r) (omega (arith, row)) (λ s. differ (sym s)) off in
-              let q = way.positive in
+              let q = way.direction.positive in
               absurd (omega (arith, ints, e, z, q))

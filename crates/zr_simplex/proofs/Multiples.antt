@@ -10,7 +10,7 @@ use Rattle.zr_base.proofs.Divisors.{positive_factor, mul_positive}
 use Rattle.zr_base.proofs.Ring.{spread}
 use Rattle.zr_simplex.specs.RowSteps.{IsSolved}
 use Rattle.zr_simplex.specs.Programs.{numbers}
-use Rattle.zr_simplex.specs.StuckSteps.{AreCoprimeParts, IsMultiple}
+use Rattle.zr_simplex.specs.StuckSteps.{AreCoprimeParts, IsLeastCommonMultiple}
 use Rattle.zr_simplex.proofs.Lcm.{least_more}
 
 product_is : (a b v : ℤ) → Ok v ≡ cross_of (a, b) (pos 0, pos 0) → (v ≡ a *ℤ b) × IsNarrow v
@@ -39,7 +39,7 @@ module _ (i : ℕ) (own : ℕ → ℤ) (den by less more : ℤ) (above : (pos 0)
   more_multiple before j h = ⊎_elim (λ (e : j ≡ i). rw e (less, own_multiple by less low.over (own i) den more low.first low.second (product_is den by more step).0)) (λ (a : j ≢ i). let b = before j (omega arith) in (b.0 *ℤ by, other_multiple b.0 by (own j) den more b.1 (product_is den by more step).0)) (cases_eq j i)
 
 -- the multiple with one row more
-pub more_is : (i : ℕ) (basis : ℕ → ℕ) (form : ℕ → ℕ → ℤ) (den by less more : ℤ) → (pos 0) <ℤ form i (basis i) → IsMultiple basis form i den → AreCoprimeParts (form i (basis i)) den by less → Ok more ≡ cross_of (den, by) (pos 0, pos 0) → IsMultiple basis form (i + 1) more
+pub more_is : (i : ℕ) (basis : ℕ → ℕ) (form : ℕ → ℕ → ℤ) (den by less more : ℤ) → (pos 0) <ℤ form i (basis i) → IsLeastCommonMultiple basis form i den → AreCoprimeParts (form i (basis i)) den by less → Ok more ≡ cross_of (den, by) (pos 0, pos 0) → IsLeastCommonMultiple basis form (i + 1) more
 more_is i basis form den by less more above before low step =
     let own : ℕ → ℤ = λ j. form j (basis j) in
     record {

@@ -80,7 +80,7 @@ module _ (p : Program) (basis : ℕ → ℕ) (form : ℕ → ℕ → ℤ) (basic
     combination = new_combination;
     own = new_own;
     other = new_other;
-    reduced = λ i h. pivot.reduced i (omega arith);
+    primitive = λ i h. pivot.primitive i (omega arith);
   }
 
   pub pivot_complete : IsComplete p made

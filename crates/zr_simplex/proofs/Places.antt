@@ -5,7 +5,7 @@ use Rattle.zr_base.specs.Steps.{IsNarrow}
 use Rattle.zr_base.specs.Terms.{Ascends, coef_at}
 use Rattle.zr_base.proofs.TermLaws.{entry_from, coef_at_more_here, coef_at_more_else}
 use Rattle.zr_simplex.specs.Programs.{numbers}
-use Rattle.zr_simplex.specs.RowSteps.{IsStart}
+use Rattle.zr_simplex.specs.RowSteps.{IsFirstEquation}
 
 module _ (places : List ℤ) (coef : List (ℕ × ℤ)) (columns i : ℕ) (ascends : Ascends 0 columns coef) (below : i < length coef) (room : columns ≤ length places) where
   pub entry_inside : (get_or coef i (0, pos 0)).0 < length places
@@ -21,7 +21,7 @@ module _ (places : List ℤ) (coef : List (ℕ × ℤ)) (columns i : ℕ) (ascen
       ⊎_elim (λ (here : j ≡ k). rw (add-one, here, coef_at_more_here 0 columns coef i (0, pos 0) ascends below) (get_or-set_same places k v (pos 0) entry_inside)) (λ (apart : j ≢ k). rw (add-one, coef_at_more_else coef i j (0, pos 0) below apart) (get_or-set_other places k j v (pos 0) apart ∙ before j)) (cases_eq j k)
 
 -- a row's equation over the columns of the program without it
-pub started : (places : List ℤ) (columns width : ℕ) (coef : ℕ → ℤ) (le : ℤ) → length places ≡ width + 3 → columns ≤ width → ((j : ℕ) → j < columns → numbers places j ≡ coef j) → ((j : ℕ) → columns ≤ j → numbers places j ≡ pos 0) → IsStart columns width (width + 2) coef le (numbers (set (set places (width + 1) le) (width + 2) (pos 1)))
+pub started : (places : List ℤ) (columns width : ℕ) (coef : ℕ → ℤ) (le : ℤ) → length places ≡ width + 3 → columns ≤ width → ((j : ℕ) → j < columns → numbers places j ≡ coef j) → ((j : ℕ) → columns ≤ j → numbers places j ≡ pos 0) → IsFirstEquation columns width (width + 2) coef le (numbers (set (set places (width + 1) le) (width + 2) (pos 1)))
 started places columns width coef le len low coefs zeros =
     let right = set places (width + 1) le in
     let long = length-set places (width + 1) le in

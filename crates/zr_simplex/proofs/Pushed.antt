@@ -35,7 +35,7 @@ module _ (p : Program) (coef : ℕ → ℕ → ℤ) (le : ℕ → ℤ) (same : (
       combination = λ i h. combines _ (kept.form.combination i h);
       own = kept.form.own;
       other = kept.form.other;
-      reduced = kept.form.reduced;
+      primitive = kept.form.primitive;
     };
     complete = λ x d holds r h. rw (same r h, right r h) (kept.complete x d holds r h);
   }

@@ -4,7 +4,7 @@ use Rattle.std.proofs.lemmas.Bool.{cases_eq, cases_lt}
 use Rattle.std.proofs.lemmas.List.{get_or_push, get_or_append_left}
 use Rattle.zr_simplex.specs.declared.columns.Column.{Column}
 use Rattle.zr_simplex.specs.declared.columns.Column.TheVariants.{Basic, Free}
-use Rattle.zr_simplex.specs.Tableaus.{AreColumns, Holds, IsAt, IsPartition, column_at}
+use Rattle.zr_simplex.specs.Tableaus.{AreColumns, Holds, StandsAt, IsPartition, column_at}
 
 module _ {basis free : List ℕ} {columns : List Column} (are : AreColumns basis free columns) where
   each_of : (j : ℕ) (place : Column) → Holds basis free j place → ((i : ℕ) × (i < length basis) × (slice_index basis i ≡ j)) ⊎ ((k : ℕ) × (k < length free) × (slice_index free k ≡ j))
@@ -61,11 +61,11 @@ module _ (basis free : List ℕ) (columns : List Column) (are : AreColumns basis
   unfolding made leaving entering
   at_other j a b = get_or-set_other (set columns (slice_index free place) (Basic r)) (slice_index basis r) j (Free place) (Basic 0) a ∙ get_or-set_other columns (slice_index free place) j (Basic r) (Basic 0) b
 
-  new_basic : (i : ℕ) → i < length basis → IsAt made (slice_index (set basis r entering) i) (Basic i)
+  new_basic : (i : ℕ) → i < length basis → StandsAt made (slice_index (set basis r entering) i) (Basic i)
   unfolding made leaving entering
   new_basic i h = ⊎_elim (λ (e : i ≡ r). rw (e, get_or-set_same basis r (slice_index free place) 0 row) (rw exchanged-length (are.free_at place inside).0, at_entering)) (λ (a : i ≢ r). rw (get_or-set_other basis r i (slice_index free place) 0 a) (rw exchanged-length (are.basic_at i h).0, at_other (slice_index basis i) (λ e. a ((partition_of are).basic_once i r h row e)) (λ e. (partition_of are).apart i place h inside e) ∙ (are.basic_at i h).1)) (cases_eq i r)
 
-  new_free : (k : ℕ) → k < length free → IsAt made (slice_index (set free place leaving) k) (Free k)
+  new_free : (k : ℕ) → k < length free → StandsAt made (slice_index (set free place leaving) k) (Free k)
   unfolding made leaving entering
   new_free k h = ⊎_elim (λ (e : k ≡ place). rw (e, get_or-set_same free place (slice_index basis r) 0 inside) (rw exchanged-length (are.basic_at r row).0, at_leaving)) (λ (a : k ≢ place). rw (get_or-set_other free place k (slice_index basis r) 0 a) (rw exchanged-length (are.free_at k h).0, at_other (slice_index free k) (λ e. (partition_of are).apart r k row h (sym e)) (λ e. a ((partition_of are).free_once k place h inside e)) ∙ (are.free_at k h).1)) (cases_eq k place)
 

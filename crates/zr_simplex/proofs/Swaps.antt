@@ -4,7 +4,7 @@ use Rattle.std.proofs.lemmas.Bool.{cases_eq}
 use Rattle.std.proofs.lemmas.List.{set-get_or}
 use Rattle.std.specs.Int.{◌∣◌}
 use Rattle.zr_simplex.specs.Programs.{numbers}
-use Rattle.zr_basis.specs.BasicForms.{IsReduced}
+use Rattle.zr_basis.specs.BasicForms.{IsPrimitive}
 use Rattle.zr_simplex.specs.RowSteps.{entered, left, swapped}
 
 pub entered_same : (place : ℕ) (xs : List ℤ) → numbers xs place ≡ pos 0 → entered place xs ≡ xs
@@ -43,8 +43,8 @@ module _ (place own : ℕ) (xs : List ℤ) (inside : place < own) (long : own < 
   pub swapped_off : (k : ℕ) → k ≢ own → numbers (swapped place own xs) k ≡ numbers (left place own xs) k
   swapped_off k a = get_or-set_other (left place own xs) own k (numbers xs place) (pos 0) a
 
-  pub swapped_reduced : IsReduced (own + 1) (numbers xs) → IsReduced (own + 1) (numbers (swapped place own xs))
-  swapped_reduced reduced d all = reduced d each
+  pub swapped_primitive : IsPrimitive (own + 1) (numbers xs) → IsPrimitive (own + 1) (numbers (swapped place own xs))
+  swapped_primitive primitive d all = primitive d each
     where
       each : (k : ℕ) → k < own + 1 → d ∣ unsigned_abs (numbers xs k)
       each k h = ⊎_elim (λ (e : k ≡ own). rw (e, ← left_place, ← swapped_off place (λ s. omega (arith, s, inside))) (all place (omega (arith, inside)))) (λ (a : k ≢ own). ⊎_elim (λ (e : k ≡ place). rw (e, ← swapped_own) (all own (omega arith))) (λ (b : k ≢ place). rw (← left_else k b a, ← swapped_off k a) (all k h)) (cases_eq k place)) (cases_eq k own)

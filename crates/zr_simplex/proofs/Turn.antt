@@ -2,7 +2,7 @@
 use Rattle.std.proofs.Common.{◌≡◌, ◌≢◌, ℕ, ◌+◌, ◌*◌, ◌-◌, ◌<◌, ◌≤◌, arith, ⊎_elim, ℤ, pos, ◌<ℤ◌, List, ◌++◌, length}
 use Rattle.std.proofs.lemmas.Bool.{cases_lt}
 use Rattle.zr_simplex.specs.Programs.{numbers}
-use Rattle.zr_basis.specs.BasicForms.{IsReduced}
+use Rattle.zr_basis.specs.BasicForms.{IsPrimitive}
 use Rattle.zr_simplex.specs.RowSteps.{IsCleared, IsExchange, IsQuotient, entered, left, swapped}
 use Rattle.zr_simplex.specs.Tableaus.{row_in}
 use Rattle.zr_simplex.proofs.Grids.{row_in-above, row_in-pivot, row_in-below}
@@ -24,7 +24,7 @@ module _ {w row : ℕ} {all above pivot below : List ℤ} (s : IsSplit w row all
   at_below k = rw s.parts (row_in-below w row above pivot below s.long s.one k)
 
 -- made are the equations of which all are split
-module _ (count own row place : ℕ) {all above pivot below : List ℤ} (s : IsSplit (own + 1) row all above pivot below) (up mid down : List ℤ) (same_long : length up ≡ row * (own + 1)) (same_one : length mid ≡ own + 1) (quotient : IsQuotient (own + 1) (numbers (swapped place own pivot)) (numbers mid)) (here : (pos 0) <ℤ numbers mid own) (reduced : IsReduced (own + 1) (numbers mid)) where
+module _ (count own row place : ℕ) {all above pivot below : List ℤ} (s : IsSplit (own + 1) row all above pivot below) (up mid down : List ℤ) (same_long : length up ≡ row * (own + 1)) (same_one : length mid ≡ own + 1) (quotient : IsQuotient (own + 1) (numbers (swapped place own pivot)) (numbers mid)) (here : (pos 0) <ℤ numbers mid own) (primitive : IsPrimitive (own + 1) (numbers mid)) where
   abbrev Changed : List ℤ → List ℤ → Type 0
   Changed e made = IsCleared (own + 1) (numbers pivot place) (numbers e place) (numbers (left place own pivot)) (numbers (entered place e)) (numbers made) own
 
@@ -54,6 +54,6 @@ module _ (count own row place : ℕ) {all above pivot below : List ℤ} (s : IsS
     exchange_made = record {
       pivoted = rw (at_pivot s, made_pivot) quotient;
       here = rw made_pivot here;
-      reduced = rw made_pivot reduced;
+      primitive = rw made_pivot primitive;
       changed = λ i h a. rw (at_pivot s) (each i h a);
     }

@@ -19,7 +19,7 @@ abbrev pub weighed : Lp → Terms → DenseRow
 weighed lp mult = combination (row_at (lp_rows lp)) mult
 
 -- the point has a value of at least 0 for each column, and meets the rows
-pub record IsFeasible (lp : Lp) (point : PointOf) : Type 0 where
+pub record IsFeasiblePoint (lp : Lp) (point : PointOf) : Type 0 where
   pub len : length point.num ≡ lp.columns
   pub nonnegative : (j : ℕ) → j < lp.columns → (pos 0) ≤ℤ num_of point j
   pub rows : Solves (lp_rows lp) (num_of point) point.den
@@ -37,7 +37,7 @@ pub record AreListed (lp : Lp) (mult extra : Terms) : Type 0 where
 
 -- the point is feasible, and by the multipliers no feasible point has a lower value
 pub record IsBest (lp : Lp) (point : PointOf) (scale worth : ℤ) (mult extra : Terms) : Type 0 where
-  pub feasible : IsFeasible lp point
+  pub feasible : IsFeasiblePoint lp point
   pub listed : AreListed lp mult extra
   pub scale_above : (pos 1) ≤ℤ scale
   pub columns : (j : ℕ) → j < lp.columns → scale *ℤ numbers lp.aim.items j +ℤ (weighed lp mult).coef j ≡ coef_at extra j
@@ -53,7 +53,7 @@ pub record IsEmpty (lp : Lp) (mult extra : Terms) : Type 0 where
 
 -- the point is feasible, and from there the value falls without end along the ray
 pub record IsUnbounded (lp : Lp) (point : PointOf) (ray : List ℤ) : Type 0 where
-  pub feasible : IsFeasible lp point
+  pub feasible : IsFeasiblePoint lp point
   pub len : length ray ≡ lp.columns
   pub nonnegative : (j : ℕ) → j < lp.columns → (pos 0) ≤ℤ numbers ray j
   pub rows : All (IneqHolds (numbers ray) (pos 0)) (lp_rows lp)
@@ -69,7 +69,6 @@ IsAnswer lp (Unbounded point ray) = IsUnbounded lp point ray.items
 pub record IsBasicPoint (p : Program) (basis : ℕ → ℕ) (form : ℕ → ℕ → ℤ) (point : PointOf) : Type 0 where
   pub all : ℕ → ℤ
   pub solution : IsBasicSolution p basis form all point.den
-  pub den : (pos 0) <ℤ point.den
   pub len : length point.num ≡ p.columns
   pub same : (j : ℕ) → j < p.columns → num_of point j ≡ all j
 
@@ -78,7 +77,6 @@ pub record IsBasicRay (p : Program) (basis : ℕ → ℕ) (form : ℕ → ℕ �
   pub all : ℕ → ℤ
   pub raise : ℤ
   pub direction : IsBasicDirection p basis form col all raise
-  pub positive : (pos 0) <ℤ raise
   pub len : length ray ≡ p.columns
   pub same : (j : ℕ) → j < p.columns → numbers ray j ≡ all j
 

@@ -2,7 +2,7 @@
 use Rattle.std.specs.Prelude.{◌≡◌, ◌≢◌, ℕ, ◌+◌, ◌-◌, ◌<◌, ℤ, pos, ◌+ℤ◌, ◌-ℤ◌, ◌*ℤ◌, ◌<ℤ◌, nat_lt, ◌==◌, if◌then◌else◌, List, [], ◌∷◌, ◌++◌, length, slice_index, slice_set}
 use Rattle.zr_base.specs.Sums.{sum_to}
 use Rattle.zr_basis.specs.Programs.{Program}
-use Rattle.zr_basis.specs.BasicForms.{CombinesEquations, IsReduced}
+use Rattle.zr_basis.specs.BasicForms.{CombinesEquations, IsPrimitive}
 use Rattle.zr_simplex.specs.RowSteps.{IsQuotient}
 use Rattle.zr_simplex.specs.Tableaus.{Equations, IsPartition, form_of}
 use Rattle.zr_simplex.specs.Dues.{HoldsAt}
@@ -48,4 +48,4 @@ pub record IsWithRow (m n v : ℕ) (old new : Equations) (u : ℕ → ℤ) : Typ
   pub last : (j : ℕ) → j < v + 3 → form_of new (m + 1) j ≡ extended v (form_of old m) (pos 0) j
   pub made : IsQuotient (v + 3) (extended v u (u (v + 2))) (form_of new m)
   pub own : (pos 0) <ℤ form_of new m v
-  pub reduced : IsReduced (v + 3) (form_of new m)
+  pub primitive : IsPrimitive (v + 3) (form_of new m)

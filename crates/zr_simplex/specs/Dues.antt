@@ -33,8 +33,8 @@ pub record IsTableau (p : Program) (t : Equations) : Type 0 where
   pub complete : IsComplete p (form_of t)
 
 -- the list has a column before the value's for each row
-abbrev pub IsStart : Program → List ℕ → Type 0
-IsStart p start =
+abbrev pub IsStartBasis : Program → List ℕ → Type 0
+IsStartBasis p start =
     (length start ≡ p.rows + 1) × ((i : ℕ) → i < p.rows → slice_index start i < value_column p)
 
 -- what is due where a right side is below zero: no point meets the rows, or a pivot by the dual rule

@@ -4,7 +4,7 @@ use Rattle.std.specs.Int.{◌∣◌}
 use Rattle.zr_base.specs.declared.step.Wide.{Wide}
 use Rattle.zr_base.specs.Steps.{cross_of}
 use Rattle.zr_simplex.specs.Programs.{numbers}
-use Rattle.zr_basis.specs.BasicForms.{IsReduced}
+use Rattle.zr_basis.specs.BasicForms.{IsPrimitive}
 use Rattle.zr_simplex.specs.StuckSteps.{AreCoprimeParts}
 
 -- made is e divided by a number
@@ -31,7 +31,7 @@ pub record IsCleared (width : ℕ) (p a : ℤ) (f e made : ℕ → ℤ) (home : 
   pub mixture : IsMixture width e f made
   pub cleared : mixture.by *ℤ a ≡ mixture.less *ℤ p
   pub own : (pos 0) <ℤ made home
-  pub reduced : IsReduced width made
+  pub primitive : IsPrimitive width made
 
 -- w is the step that makes the number at place j where p of the equation f clears a of the equation e
 abbrev pub IsWideClear : ℤ → ℤ → (ℕ → ℤ) → (ℕ → ℤ) → ℕ → Wide → Type 0
@@ -54,7 +54,7 @@ swapped place own xs = slice_set (left place own xs) own (numbers xs place)
 pub record IsExchange (count own r place : ℕ) (old made : ℕ → List ℤ) : Type 0 where
   pub pivoted : IsQuotient (own + 1) (numbers (swapped place own (old r))) (numbers (made r))
   pub here : (pos 0) <ℤ numbers (made r) own
-  pub reduced : IsReduced (own + 1) (numbers (made r))
+  pub primitive : IsPrimitive (own + 1) (numbers (made r))
   pub changed : (i : ℕ) → i < count → i ≢ r → IsCleared (own + 1) (numbers (old r) place) (numbers (old i) place) (numbers (left place own (old r))) (numbers (entered place (old i))) (numbers (made i)) own
 
 -- each of the first equations stands for its column of the basis: above zero there, zero at the others
@@ -62,7 +62,7 @@ pub record IsSolved (count width : ℕ) (basis : ℕ → ℕ) (form : ℕ → �
   pub places : (i : ℕ) → i < count → basis i < width
   pub own : (i : ℕ) → i < count → (pos 0) <ℤ form i (basis i)
   pub other : (i k : ℕ) → i < count → k < count → i ≢ k → form i (basis k) ≡ pos 0
-  pub reduced : (i : ℕ) → i < count → IsReduced width (form i)
+  pub primitive : (i : ℕ) → i < count → IsPrimitive width (form i)
 
 -- made are the equations after column col has taken the place of the basis column of equation r
 pub record IsPivot (count width : ℕ) (basis : ℕ → ℕ) (form : ℕ → ℕ → ℤ) (r col : ℕ) (made : ℕ → ℕ → ℤ) : Type 0 where
@@ -71,10 +71,10 @@ pub record IsPivot (count width : ℕ) (basis : ℕ → ℕ) (form : ℕ → ℕ
   pub cleared : (i : ℕ) → i < count → i ≢ r → made i col ≡ pos 0
   pub here : (pos 0) <ℤ made r col
   pub own : (i : ℕ) → i < count → i ≢ r → (pos 0) <ℤ made i (basis i)
-  pub reduced : (i : ℕ) → i < count → IsReduced width (made i)
+  pub primitive : (i : ℕ) → i < count → IsPrimitive width (made i)
 
 -- e has the coefficients, 1 at its own column, and the right side as its last number
-pub record IsStart (columns width own : ℕ) (coef : ℕ → ℤ) (le : ℤ) (e : ℕ → ℤ) : Type 0 where
+pub record IsFirstEquation (columns width own : ℕ) (coef : ℕ → ℤ) (le : ℤ) (e : ℕ → ℤ) : Type 0 where
   pub coefs : (j : ℕ) → j < columns → e j ≡ coef j
   pub one : e own ≡ pos 1
   pub right : e (width + 1) ≡ le

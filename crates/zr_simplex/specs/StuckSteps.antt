@@ -23,15 +23,15 @@ IsWidePivot f e col j w =
     (by : ℤ) × (less : ℤ) × (f col ≢ pos 0) × (e col ≢ pos 0) × AreCoprimeParts (f col) (e col) by less × (cross_of (by, e j) (less, f j) ≡ Err w)
 
 -- den is the least common multiple of the first equations' numbers at their own columns
-pub record IsMultiple (basis : ℕ → ℕ) (form : ℕ → ℕ → ℤ) (last : ℕ) (den : ℤ) : Type 0 where
+pub record IsLeastCommonMultiple (basis : ℕ → ℕ) (form : ℕ → ℕ → ℤ) (last : ℕ) (den : ℤ) : Type 0 where
   pub positive : (pos 0) <ℤ den
   pub multiple : (i : ℕ) → i < last → (k : ℤ) × (k *ℤ form i (basis i) ≡ den)
   pub least : (z : ℕ) → ((i : ℕ) → i < last → unsigned_abs (form i (basis i)) ∣ z) → unsigned_abs den ∣ z
 
--- w is the step that takes the number of this row into the multiple of those before it
+-- w is the step that takes the number of this row into the multiple of those before it, which is narrow
 abbrev pub IsWideMultiple : (ℕ → ℕ) → (ℕ → ℕ → ℤ) → ℕ → Wide → Type 0
 IsWideMultiple basis form row w =
-    (den : ℤ) × (by : ℤ) × (less : ℤ) × IsMultiple basis form row den × AreCoprimeParts (form row (basis row)) den by less × (cross_of (den, by) (pos 0, pos 0) ≡ Err w)
+    (den : ℤ) × (by : ℤ) × (less : ℤ) × IsNarrow den × IsLeastCommonMultiple basis form row den × AreCoprimeParts (form row (basis row)) den by less × (cross_of (den, by) (pos 0, pos 0) ≡ Err w)
 
 -- the numerator over den of row i, by its equation
 abbrev pub IsNumerator : (ℕ → ℕ) → (ℕ → ℕ → ℤ) → ℤ → (ℕ → ℤ) → ℕ → ℤ → Type 0
@@ -40,7 +40,7 @@ IsNumerator basis form den value i x = form i (basis i) *ℤ x ≡ value i *ℤ 
 -- w is the step that makes the numerator of this row over the multiple of all, which is narrow, as are the numerators before it
 abbrev pub IsWideNumerator : (ℕ → ℕ) → (ℕ → ℕ → ℤ) → ℕ → (ℕ → ℤ) → ℕ → Wide → Type 0
 IsWideNumerator basis form rows value row w =
-    (den : ℤ) × (part : ℤ) × IsNarrow den × IsMultiple basis form rows den × ((i : ℕ) → i < row → (x : ℤ) × IsNumerator basis form den value i x × IsNarrow x) × (part *ℤ form row (basis row) ≡ den) × (cross_of (value row, part) (pos 0, pos 0) ≡ Err w)
+    (den : ℤ) × (part : ℤ) × IsNarrow den × IsLeastCommonMultiple basis form rows den × ((i : ℕ) → i < row → (x : ℤ) × IsNumerator basis form den value i x × IsNarrow x) × (part *ℤ form row (basis row) ≡ den) × (cross_of (value row, part) (pos 0, pos 0) ≡ Err w)
 
 -- w is one of the two at this row, where the numerators are those of `value`
 abbrev pub IsWideAt : ℕ → (ℕ → ℕ) → (ℕ → ℕ → ℤ) → (ℕ → ℤ) → ℕ → Wide → Type 0

@@ -26,8 +26,8 @@ abbrev pub column_at : List Column → ℕ → Column
 column_at columns j = slice_index_or columns j (Basic 0)
 
 -- column j stands there
-abbrev pub IsAt : List Column → ℕ → Column → Type 0
-IsAt columns j place = (j < length columns) × (column_at columns j ≡ place)
+abbrev pub StandsAt : List Column → ℕ → Column → Type 0
+StandsAt columns j place = (j < length columns) × (column_at columns j ≡ place)
 
 -- what stands there is column j
 abbrev pub Holds : List ℕ → List ℕ → ℕ → Column → Type 0
@@ -36,8 +36,8 @@ Holds basis free j (Free k) = (k < length free) × (slice_index free k ≡ j)
 
 -- the list says of each column where it stands
 pub record AreColumns (basis free : List ℕ) (columns : List Column) : Type 0 where
-  pub basic_at : (i : ℕ) → i < length basis → IsAt columns (slice_index basis i) (Basic i)
-  pub free_at : (k : ℕ) → k < length free → IsAt columns (slice_index free k) (Free k)
+  pub basic_at : (i : ℕ) → i < length basis → StandsAt columns (slice_index basis i) (Basic i)
+  pub free_at : (k : ℕ) → k < length free → StandsAt columns (slice_index free k) (Free k)
   pub each : (j : ℕ) → j < length columns → Holds basis free j (column_at columns j)
 
 -- row i of a list in which rows stand one after the other

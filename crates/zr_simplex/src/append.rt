@@ -1,9 +1,9 @@
 ghost use Rattle.std.specs.Prelude.{◌≡◌, ◌≢◌, ◌<◌, ◌+◌, ◌-◌, ◌*◌, ℕ, ℤ, pos, ◌-ℤ◌, ◌*ℤ◌, ◌<ℤ◌, ◌++◌, length, slice_index, drop, IfOk, OnOk};
 ghost use Rattle.std.specs.List.{All};
 ghost use Rattle.zr_base.specs.Steps.{IsNarrow};
-ghost use Rattle.zr_basis.specs.BasicForms.{IsReduced};
+ghost use Rattle.zr_basis.specs.BasicForms.{IsPrimitive};
 ghost use Rattle.zr_simplex.specs.Programs.{IsLp, numbers, program_of};
-ghost use Rattle.zr_simplex.specs.RowSteps.{IsGreatest, IsStart};
+ghost use Rattle.zr_simplex.specs.RowSteps.{IsGreatest, IsFirstEquation};
 ghost use Rattle.zr_simplex.specs.Tableaus.{basis_of, form_of, row_in};
 ghost use Rattle.zr_simplex.specs.Dues.{IsTableau};
 ghost use Rattle.zr_simplex.specs.Appends.{IsCondensed, IsExpressed, IsTakenOff, first_rows};
@@ -32,7 +32,7 @@ fn write_raw(places: &mut [i128], lp: &Lp, rows: usize)
     requires zeros { All (λ z. z ≡ pos 0) places.old }
     ensures len { length places.new ≡ length places.old }
     ensures narrow { All IsNarrow places.new }
-    ensures start { IsStart lp.now.columns (lp.now.columns + rows) (lp.now.columns + rows + 2) ((program_of lp.now).coef rows) ((program_of lp.now).le rows) (numbers places.new) }
+    ensures start { IsFirstEquation lp.now.columns (lp.now.columns + rows) (lp.now.columns + rows + 2) ((program_of lp.now).coef rows) ((program_of lp.now).le rows) (numbers places.new) }
 {
     let columns = lp.columns as usize;
     write_row(places, &lp.rows[rows].coef, columns);
@@ -46,7 +46,7 @@ fn raw_row(alloc: Global, lp: &Lp, rows: usize) -> Result<Vec<i128>, AllocError>
     requires rows { rows + 1 ≡ length lp.now.rows.items }
     ensures len { IfOk result (λ made. length made.items ≡ lp.now.columns + rows + 3) }
     ensures narrow { IfOk result (λ made. All IsNarrow made.items) }
-    ensures start { IfOk result (λ made. IsStart lp.now.columns (lp.now.columns + rows) (lp.now.columns + rows + 2) ((program_of lp.now).coef rows) ((program_of lp.now).le rows) (numbers made.items)) }
+    ensures start { IfOk result (λ made. IsFirstEquation lp.now.columns (lp.now.columns + rows) (lp.now.columns + rows + 2) ((program_of lp.now).coef rows) ((program_of lp.now).le rows) (numbers made.items)) }
 {
     let mut made = zeros(alloc, lp.columns as usize + rows + 3)?;
     write_raw(&mut made, lp, rows);
@@ -164,7 +164,7 @@ fn replace_row(all: &mut [i128], row: usize, made: &[i128], free: &[u32])
     ensures others { (i : ℕ) → i ≢ row → row_in (length free.now + 1) all.new i ≡ row_in (length free.now + 1) all.old i }
     ensures made { IsCondensed free.now (length made.now - 1) (numbers made.now) (numbers (row_in (length free.now + 1) all.new row)) }
     ensures own { pos 0 <ℤ numbers (row_in (length free.now + 1) all.new row) (length free.now) }
-    ensures reduced { IsReduced (length free.now + 1) (numbers (row_in (length free.now + 1) all.new row)) }
+    ensures primitive { IsPrimitive (length free.now + 1) (numbers (row_in (length free.now + 1) all.new row)) }
 {
     let width = free.len() + 1;
     let start = row * width;
@@ -192,7 +192,7 @@ pub(crate) fn add_equation(
     ensures value { OnOk result (row_in (length free.now + 1) all.new.items (row + 1) ≡ row_in (length free.now + 1) all.old.items row) }
     ensures made { OnOk result (IsCondensed free.now (length made.now - 1) (numbers made.now) (numbers (row_in (length free.now + 1) all.new.items row))) }
     ensures own { OnOk result (pos 0 <ℤ numbers (row_in (length free.now + 1) all.new.items row) (length free.now)) }
-    ensures reduced { OnOk result (IsReduced (length free.now + 1) (numbers (row_in (length free.now + 1) all.new.items row))) }
+    ensures primitive { OnOk result (IsPrimitive (length free.now + 1) (numbers (row_in (length free.now + 1) all.new.items row))) }
 {
     let width = free.len() + 1;
     copy_last(all, row * width, width)?;

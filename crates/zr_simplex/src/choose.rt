@@ -5,10 +5,10 @@ ghost use Rattle.zr_base.specs.Lowest.{IsRatio};
 ghost use Rattle.zr_basis.specs.BasicForms.{right_column, value_column};
 ghost use Rattle.zr_basis.specs.Stages.{IsFeasibleForm};
 ghost use Rattle.zr_basis.specs.Primal.{IsPrimalDue, IsRowBelow, place};
-ghost use Rattle.zr_basis.specs.Dual.{IsDualDue, IsRayBelow};
+ghost use Rattle.zr_basis.specs.Dual.{IsDualDue, IsDirectionBelow};
 ghost use Rattle.zr_simplex.specs.Programs.{IsLp, program_of};
 ghost use Rattle.zr_simplex.specs.Tableaus.{basis_of, form_of};
-ghost use Rattle.zr_simplex.specs.Dues.{IsImprovingDue, IsMendingDue, IsStart, IsTableau};
+ghost use Rattle.zr_simplex.specs.Dues.{IsImprovingDue, IsMendingDue, IsStartBasis, IsTableau};
 
 use crate::program::Lp;
 use crate::tableau::Tableau;
@@ -35,7 +35,7 @@ pub(crate) fn next_due(
 ) -> Result<Due, AllocError>
     requires lp { IsLp lp.now }
     requires kept { IsTableau (program_of lp.now) tableau.now }
-    requires start { MatchOption start.old (Unit {0}) (λ kept. IsStart (program_of lp.now) kept.items × IsFeasibleForm (program_of lp.now) (form_of tableau.now)) }
+    requires start { MatchOption start.old (Unit {0}) (λ kept. IsStartBasis (program_of lp.now) kept.items × IsFeasibleForm (program_of lp.now) (form_of tableau.now)) }
     ensures due { IfOk result (λ due. MatchOption start.new (IsMendingDue (program_of lp.now) (basis_of tableau.now) (form_of tableau.now) due) (λ kept. IsImprovingDue (program_of lp.now) (λ i. slice_index kept.items i) (form_of tableau.now) due)) }
     ensures kept { MatchOption start.old (MatchOption start.new (Unit {0}) (λ kept. (kept.items ≡ tableau.now.basis) × IsFeasibleForm (program_of lp.now) (form_of tableau.now))) (λ kept. start.new ≡ Some kept) }
 {
@@ -72,7 +72,7 @@ fn mending_due(lp: &Lp, tableau: &Tableau) -> Option<Due>
 fn improving_due(lp: &Lp, tableau: &Tableau, start: &[u32]) -> Due
     requires lp { IsLp lp.now }
     requires kept { IsTableau (program_of lp.now) tableau.now }
-    requires start { IsStart (program_of lp.now) start.now }
+    requires start { IsStartBasis (program_of lp.now) start.now }
     requires feasible { IsFeasibleForm (program_of lp.now) (form_of tableau.now) }
     ensures { IsImprovingDue (program_of lp.now) (λ i. slice_index start.now i) (form_of tableau.now) result }
 {
@@ -140,7 +140,7 @@ fn better_column(
     requires column { column < value_column (program_of lp.now) }
     requires under { form_of tableau.now row column <ℤ pos 0 }
     requires best { MatchOption best (Unit {0}) (λ last. (last < column) × (form_of tableau.now row last <ℤ pos 0)) }
-    ensures { MatchOption best (result ≡ column) (λ last. ((result ≡ column) × IsRayBelow (program_of lp.now) (basis_of tableau.now) (form_of tableau.now) row column last) ⊎ ((result ≡ last) × (IsRayBelow (program_of lp.now) (basis_of tableau.now) (form_of tableau.now) row column last → ⊥))) }
+    ensures { MatchOption best (result ≡ column) (λ last. ((result ≡ column) × IsDirectionBelow (program_of lp.now) (basis_of tableau.now) (form_of tableau.now) row column last) ⊎ ((result ≡ last) × (IsDirectionBelow (program_of lp.now) (basis_of tableau.now) (form_of tableau.now) row column last → ⊥))) }
 {
     match best {
         Some(last) if !is_lower_ray(lp, tableau, row, column, last) => last,
@@ -158,8 +158,8 @@ fn is_lower_ray(lp: &Lp, tableau: &Tableau, row: usize, column: usize, last: usi
     requires order { last < column }
     requires under { form_of tableau.now row column <ℤ pos 0 }
     requires under_last { form_of tableau.now row last <ℤ pos 0 }
-    ensures yes { result ≡ true → IsRayBelow (program_of lp.now) (basis_of tableau.now) (form_of tableau.now) row column last }
-    ensures no { result ≡ false → IsRayBelow (program_of lp.now) (basis_of tableau.now) (form_of tableau.now) row column last → ⊥ }
+    ensures yes { result ≡ true → IsDirectionBelow (program_of lp.now) (basis_of tableau.now) (form_of tableau.now) row column last }
+    ensures no { result ≡ false → IsDirectionBelow (program_of lp.now) (basis_of tableau.now) (form_of tableau.now) row column last → ⊥ }
 {
     for at in 0..last {
         if let Some(i) = tableau.row_of(at) {
@@ -218,7 +218,7 @@ pub(crate) fn column_to_raise(lp: &Lp, tableau: &Tableau) -> Option<usize>
 fn row_to_leave(lp: &Lp, tableau: &Tableau, start: &[u32], column: usize) -> Option<usize>
     requires lp { IsLp lp.now }
     requires kept { IsTableau (program_of lp.now) tableau.now }
-    requires start { IsStart (program_of lp.now) start.now }
+    requires start { IsStartBasis (program_of lp.now) start.now }
     requires column { column < value_column (program_of lp.now) }
     requires falls { pos 0 <ℤ form_of tableau.now (length lp.now.rows.items) column }
     ensures { MatchOption result ((i : ℕ) → i < length lp.now.rows.items → form_of tableau.now i column ≤ℤ pos 0) (λ row. IsPrimalDue (program_of lp.now) (λ i. slice_index start.now i) (form_of tableau.now) row column) }
@@ -243,7 +243,7 @@ fn better_row(
 ) -> usize
     requires lp { IsLp lp.now }
     requires kept { IsTableau (program_of lp.now) tableau.now }
-    requires start { IsStart (program_of lp.now) start.now }
+    requires start { IsStartBasis (program_of lp.now) start.now }
     requires row { row < length lp.now.rows.items }
     requires column { column < value_column (program_of lp.now) }
     requires above { pos 0 <ℤ form_of tableau.now row column }
@@ -267,7 +267,7 @@ fn is_lower_row(
 ) -> bool
     requires lp { IsLp lp.now }
     requires kept { IsTableau (program_of lp.now) tableau.now }
-    requires start { IsStart (program_of lp.now) start.now }
+    requires start { IsStartBasis (program_of lp.now) start.now }
     requires row { row < length lp.now.rows.items }
     requires last { last < length lp.now.rows.items }
     requires column { column < value_column (program_of lp.now) }
@@ -289,7 +289,7 @@ fn is_lower_row(
 /// The column that comes at this place of a vector.
 fn place_at(lp: &Lp, start: &[u32], k: usize) -> usize
     requires lp { IsLp lp.now }
-    requires start { IsStart (program_of lp.now) start.now }
+    requires start { IsStartBasis (program_of lp.now) start.now }
     requires k { k ≤ length lp.now.rows.items }
     ensures place { result ≡ place (program_of lp.now) (λ i. slice_index start.now i) k }
     ensures inside { result ≤ right_column (program_of lp.now) }

@@ -2,7 +2,7 @@ ghost use Rattle.std.specs.Prelude.{◌≡◌, ◌≢◌, ◌<◌, ◌+◌, ◌*
 ghost use Rattle.std.specs.List.{All};
 ghost use Rattle.zr_base.specs.Steps.{IsNarrow};
 ghost use Rattle.zr_simplex.specs.Programs.{numbers};
-ghost use Rattle.zr_basis.specs.BasicForms.{IsReduced};
+ghost use Rattle.zr_basis.specs.BasicForms.{IsPrimitive};
 ghost use Rattle.zr_simplex.specs.Tableaus.{row_in};
 ghost use Rattle.zr_simplex.specs.RowSteps.{IsCleared, IsExchange, IsQuotient, IsWideClear, entered, left};
 
@@ -35,7 +35,7 @@ fn clear_rows(rows: &mut [i128], count: usize, pivot: &[i128], entry: Entry) -> 
     requires apart { entry.number ≢ pos 0 }
     requires other { numbers pivot.now entry.own ≡ pos 0 }
     requires above { (i : ℕ) → i < count → pos 0 <ℤ numbers (row_in (length pivot.now) rows.old i) entry.own }
-    requires reduced { (i : ℕ) → i < count → IsReduced (length pivot.now) (numbers (row_in (length pivot.now) rows.old i)) }
+    requires primitive { (i : ℕ) → i < count → IsPrimitive (length pivot.now) (numbers (row_in (length pivot.now) rows.old i)) }
     ensures len { length rows.new ≡ length rows.old }
     ensures narrow { All IsNarrow rows.new }
     ensures ok { OnOk result ((i : ℕ) → i < count → IsCleared (length pivot.now) entry.number (numbers (row_in (length pivot.now) rows.old i) entry.place) (numbers pivot.now) (numbers (entered entry.place (row_in (length pivot.now) rows.old i))) (numbers (row_in (length pivot.now) rows.new i)) entry.own) }
@@ -74,12 +74,12 @@ fn enter(pivot: &mut [i128], own: usize, number: i128)
     requires narrow { All IsNarrow pivot.old }
     requires narrow_number { IsNarrow number }
     requires apart { number ≢ pos 0 }
-    requires reduced { IsReduced (length pivot.old) (numbers (slice_set pivot.old own number)) }
+    requires primitive { IsPrimitive (length pivot.old) (numbers (slice_set pivot.old own number)) }
     ensures len { length pivot.new ≡ length pivot.old }
     ensures narrow { All IsNarrow pivot.new }
     ensures quotient { IsQuotient (length pivot.old) (numbers (slice_set pivot.old own number)) (numbers pivot.new) }
     ensures own { pos 0 <ℤ numbers pivot.new own }
-    ensures reduced { IsReduced (length pivot.old) (numbers pivot.new) }
+    ensures primitive { IsPrimitive (length pivot.old) (numbers pivot.new) }
 {
     pivot[own] = number;
     reduce(pivot, own, 1);
@@ -105,7 +105,7 @@ pub(crate) fn exchange(
     requires place { place < own }
     requires apart { numbers (row_in (own + 1) all.old row) place ≢ pos 0 }
     requires above { (i : ℕ) → i < count → pos 0 <ℤ numbers (row_in (own + 1) all.old i) own }
-    requires reduced { (i : ℕ) → i < count → IsReduced (own + 1) (numbers (row_in (own + 1) all.old i)) }
+    requires primitive { (i : ℕ) → i < count → IsPrimitive (own + 1) (numbers (row_in (own + 1) all.old i)) }
     ensures len { length all.new ≡ length all.old }
     ensures narrow { All IsNarrow all.new }
     ensures ok { OnOk result (IsExchange count own row place (row_in (own + 1) all.old) (row_in (own + 1) all.new)) }

@@ -3,7 +3,7 @@ ghost use Rattle.std.specs.List.{All};
 ghost use Rattle.std.specs.Int.{IsGcd, ◌∣◌};
 ghost use Rattle.zr_base.specs.Steps.{IsNarrow, cross_of};
 ghost use Rattle.zr_simplex.specs.Programs.{numbers};
-ghost use Rattle.zr_basis.specs.BasicForms.{IsReduced};
+ghost use Rattle.zr_basis.specs.BasicForms.{IsPrimitive};
 ghost use Rattle.zr_simplex.specs.StuckSteps.{AreCoprimeParts};
 ghost use Rattle.zr_simplex.specs.RowSteps.{IsCleared, IsGreatest, IsQuotient, IsWideClear, entered};
 
@@ -145,7 +145,7 @@ pub(crate) fn reduce(row: &mut [i128], own: usize, common: u128)
     ensures len { length row.new ≡ length row.old }
     ensures quotient { IsQuotient (length row.old) (numbers row.old) (numbers row.new) }
     ensures own { pos 0 <ℤ numbers row.new own }
-    ensures reduced { IsReduced (length row.old) (numbers row.new) }
+    ensures primitive { IsPrimitive (length row.old) (numbers row.new) }
     ensures narrow { All IsNarrow row.new }
 {
     let by = signed_divisor(row, own, common);
@@ -164,7 +164,7 @@ pub(crate) fn clear(row: &mut [i128], pivot: &[i128], entry: Entry) -> Result<()
     requires narrow_pivot { All IsNarrow pivot.now }
     requires narrow_entry { IsNarrow entry.number }
     requires above { pos 0 <ℤ numbers row.old entry.own }
-    requires reduced { IsReduced (length row.old) (numbers row.old) }
+    requires primitive { IsPrimitive (length row.old) (numbers row.old) }
     requires apart { entry.number ≢ pos 0 }
     requires other { numbers pivot.now entry.own ≡ pos 0 }
     ensures len { length row.new ≡ length row.old }

@@ -3,7 +3,7 @@ ghost use Rattle.std.specs.List.{All};
 ghost use Rattle.zr_base.specs.Steps.{IsNarrow};
 ghost use Rattle.zr_simplex.specs.Programs.{numbers};
 ghost use Rattle.zr_simplex.specs.RowSteps.{IsSolved};
-ghost use Rattle.zr_simplex.specs.StuckSteps.{IsMultiple, IsNumerator, IsWideMultiple, IsWideNumerator};
+ghost use Rattle.zr_simplex.specs.StuckSteps.{IsLeastCommonMultiple, IsNumerator, IsWideMultiple, IsWideNumerator};
 ghost use Rattle.zr_simplex.specs.Answers.{signed};
 ghost use Rattle.zr_simplex.specs.Tableaus.{basis_of, form_of};
 
@@ -24,7 +24,7 @@ pub(crate) fn common_multiple(tableau: &Tableau, rows: usize) -> Result<i128, Wi
     requires rows { rows + 1 ≡ length tableau.now.basis }
     requires solved { IsSolved (length tableau.now.basis) tableau.now.width (basis_of tableau.now) (form_of tableau.now) }
     ensures narrow { IfOk result IsNarrow }
-    ensures multiple { IfOk result (IsMultiple (basis_of tableau.now) (form_of tableau.now) rows) }
+    ensures multiple { IfOk result (IsLeastCommonMultiple (basis_of tableau.now) (form_of tableau.now) rows) }
     ensures err { IfErr result (λ at. (at.row < rows) × IsWideMultiple (basis_of tableau.now) (form_of tableau.now) at.row at.wide) }
 {
     let mut den = 1;
@@ -53,7 +53,7 @@ pub(crate) fn fill(
     requires from { from < tableau.now.width }
     requires narrow { IsNarrow den }
     requires narrow_places { All IsNarrow places.old }
-    requires multiple { IsMultiple (basis_of tableau.now) (form_of tableau.now) rows den }
+    requires multiple { IsLeastCommonMultiple (basis_of tableau.now) (form_of tableau.now) rows den }
     requires places { (i : ℕ) → i < rows → basis_of tableau.now i < length places.old }
     ensures len { length places.new ≡ length places.old }
     ensures on { OnOk result ((i : ℕ) → i < rows → IsNumerator (basis_of tableau.now) (form_of tableau.now) den (λ i. signed negated (form_of tableau.now i from)) i (numbers places.new (basis_of tableau.now i))) }

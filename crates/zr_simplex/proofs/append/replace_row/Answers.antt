@@ -40,8 +40,8 @@ returns-clause-made c =
       own = q.numbers (length c.args.free.now) (omega (arith, places_long at)) ∙ made.own (length c.args.made.now - 1) (omega (arith, c.requires.some));
     })
 
-pub returns-clause-reduced : goal.returns-clause-reduced
-returns-clause-reduced c =
-    let at = (goal.at.returns-clause-reduced c).After-reduce in
+pub returns-clause-primitive : goal.returns-clause-primitive
+returns-clause-primitive c =
+    let at = (goal.at.returns-clause-primitive c).After-reduce in
     let w = length c.args.free.now + 1 in
-    rw (span c.args.row w, row_in-here w c.args.all.now c.reduce.new.row c.args.row (long at) (inside at)) (rw (places_long at) at c.reduce.ensures.reduced)
+    rw (span c.args.row w, row_in-here w c.args.all.now c.reduce.new.row c.args.row (long at) (inside at)) (rw (places_long at) at c.reduce.ensures.primitive)

@@ -18,10 +18,10 @@ returns-in-Ok-clause-point c =
     record {
       all = numbers xs;
       solution = record {
+        positive = rw den made.den.0;
         on = λ i h. rw den (on i h);
         off = λ j h out. made.off j out;
       };
-      den = rw den made.den.0;
       len = ap length items ∙ length-take-le n xs (omega (arith, made.len));
       same = λ j h. ap (λ zs. numbers zs j) items ∙ get_or-take n xs j (pos 0) h;
     }

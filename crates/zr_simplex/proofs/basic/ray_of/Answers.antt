@@ -19,11 +19,11 @@ returns-in-Ok-clause-ray c =
       all = numbers raised;
       raise = c.in-Ok.den;
       direction = record {
+        positive = made.den.0;
         raised = get_or-set_same xs c.args.column c.in-Ok.den (pos 0) below;
         on = λ i h. rw (get_or-set_other xs c.args.column (basis_of c.args.tableau.now i) c.in-Ok.den (pos 0) (λ e. c.requires.free i h (sym e))) (made.on i h);
         off = λ j h other out. get_or-set_other xs c.args.column j c.in-Ok.den (pos 0) other ∙ made.off j out;
       };
-      positive = made.den.0;
       len = ap length items ∙ length-take-le n raised (omega (arith, made.len, length-set xs c.args.column c.in-Ok.den));
       same = λ j h. ap (λ zs. numbers zs j) items ∙ get_or-take n raised j (pos 0) h;
     }

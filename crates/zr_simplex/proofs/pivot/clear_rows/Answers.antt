@@ -24,13 +24,13 @@ clear-requires-clause-above c =
     let i = c.loop-row.row in
     rw (span i w, c.loop-row.invariant.left i (omega arith)) (c.requires.above i c.loop-row-test.true)
 
-pub clear-requires-clause-reduced : goal.clear-requires-clause-reduced
-clear-requires-clause-reduced c =
+pub clear-requires-clause-primitive : goal.clear-requires-clause-primitive
+clear-requires-clause-primitive c =
     let w = length c.args.pivot.now in
     let i = c.loop-row.row in
     let old = c.args.rows.now in
     let wide = row_in-length c.args.count w old i c.loop-row-test.true c.requires.len in
-    rw (span i w, c.loop-row.invariant.left i (omega arith), wide) (c.requires.reduced i c.loop-row-test.true)
+    rw (span i w, c.loop-row.invariant.left i (omega arith), wide) (c.requires.primitive i c.loop-row-test.true)
 
 pub returns-in-Err-clause-narrow : goal.returns-in-Err-clause-narrow
 returns-in-Err-clause-narrow c =

@@ -14,4 +14,4 @@ pub reduce-requires-clause-greatest : goal.reduce-requires-clause-greatest
 reduce-requires-clause-greatest c =
     let x : FitsSigned w128 c.args.number = search rules in
     let new = set c.args.pivot.now c.args.own c.args.number in
-    simp (to_z-of_z, length-set) (greatest_one (length c.args.pivot.now) (numbers new) c.requires.reduced)
+    simp (to_z-of_z, length-set) (greatest_one (length c.args.pivot.now) (numbers new) c.requires.primitive)

@@ -5,7 +5,7 @@ use Rattle.std.proofs.lemmas.Result.{err_from_is_err_and}
 use Rattle.std.specs.Int.{w128}
 use Rattle.std.specs.List.{All}
 use Rattle.zr_base.specs.Steps.{IsNarrow}
-use Rattle.zr_simplex.proofs.Swaps.{left-length, swapped_reduced}
+use Rattle.zr_simplex.proofs.Swaps.{left-length, swapped_primitive}
 use Rattle.zr_simplex.proofs.Turn.{IsSplit, at_above, at_below, at_pivot, exchange_made}
 use Rattle.zr_simplex.proofs.pivot.exchange.Goals as goal
 use Rattle.zr_simplex.proofs.pivot.exchange.Goals.{After-leave-number}
@@ -39,10 +39,10 @@ clear_rows-requires-clause-above c i h =
     let at = (goal.at.clear_rows-requires-clause-above c).After-leave-number in
     rw (long at, ← at_above (split at) i h) (c.requires.above i (omega (arith, h, c.requires.row)))
 
-pub clear_rows-requires-clause-reduced : goal.clear_rows-requires-clause-reduced
-clear_rows-requires-clause-reduced c i h =
-    let at = (goal.at.clear_rows-requires-clause-reduced c).After-leave-number in
-    rw (long at, ← at_above (split at) i h) (c.requires.reduced i (omega (arith, h, c.requires.row)))
+pub clear_rows-requires-clause-primitive : goal.clear_rows-requires-clause-primitive
+clear_rows-requires-clause-primitive c i h =
+    let at = (goal.at.clear_rows-requires-clause-primitive c).After-leave-number in
+    rw (long at, ← at_above (split at) i h) (c.requires.primitive i (omega (arith, h, c.requires.row)))
 
 pub returns-in_err-clear_rows-clause-narrow : goal.returns-in_err-clear_rows-clause-narrow
 returns-in_err-clear_rows-clause-narrow c =
@@ -74,10 +74,10 @@ clear_rows-requires-2-clause-above c i h =
     let at = (goal.at.clear_rows-requires-2-clause-above c).After-leave-number in
     rw (long at, ← at_below (split at) i) (c.requires.above (c.args.row + (1 + i)) (omega (arith, h)))
 
-pub clear_rows-requires-2-clause-reduced : goal.clear_rows-requires-2-clause-reduced
-clear_rows-requires-2-clause-reduced c i h =
-    let at = (goal.at.clear_rows-requires-2-clause-reduced c).After-leave-number in
-    rw (long at, ← at_below (split at) i) (c.requires.reduced (c.args.row + (1 + i)) (omega (arith, h)))
+pub clear_rows-requires-2-clause-primitive : goal.clear_rows-requires-2-clause-primitive
+clear_rows-requires-2-clause-primitive c i h =
+    let at = (goal.at.clear_rows-requires-2-clause-primitive c).After-leave-number in
+    rw (long at, ← at_below (split at) i) (c.requires.primitive (c.args.row + (1 + i)) (omega (arith, h)))
 
 pub returns-in-Err-clause-narrow : goal.returns-in-Err-clause-narrow
 returns-in-Err-clause-narrow c =
@@ -92,13 +92,13 @@ returns-in-Err-clause-err c =
     let m : c.in-Err.e.row + c.args.row + 1 ≡ c.args.row + (1 + c.in-Err.e.row) = omega arith in
     rw (m, at_pivot s, at_below s c.in-Err.e.row) (omega (arith, e.0), λ z. omega (arith, z), e.1, e.2)
 
-pub enter-requires-clause-reduced : goal.enter-requires-clause-reduced
-enter-requires-clause-reduced c =
-    let at = (goal.at.enter-requires-clause-reduced c).After-leave-number in
+pub enter-requires-clause-primitive : goal.enter-requires-clause-primitive
+enter-requires-clause-primitive c =
+    let at = (goal.at.enter-requires-clause-primitive c).After-leave-number in
     let n : FitsSigned w128 c.leave-number.result = search rules in
     let xs = c.split_at_mut-pivot.result.0.now in
-    let whole = rw (at_pivot (split at)) at (c.requires.reduced c.args.row c.requires.row) in
-    let swapped = swapped_reduced c.args.place c.args.own xs c.requires.place (has_own at) whole in
+    let whole = rw (at_pivot (split at)) at (c.requires.primitive c.args.row c.requires.row) in
+    let swapped = swapped_primitive c.args.place c.args.own xs c.requires.place (has_own at) whole in
     simp to_z-of_z (rw (long at, c.leave-number.ensures.left, c.leave-number.ensures.value) swapped)
 
 pub returns-clause-narrow : goal.returns-clause-narrow
@@ -113,5 +113,5 @@ returns-clause-ok c =
     let first = rw (long at, is.left, is.value) at (simp to_z-of_z at c.in_ok-clear_rows.ensures.ok) in
     let second = rw (long at, is.left, is.value) at (simp to_z-of_z at c.in_default.ensures.ok) in
     let quotient = rw (long at, is.left, is.value) at (simp to_z-of_z at c.enter.ensures.quotient) in
-    let reduced = rw (long at) at c.enter.ensures.reduced in
-    exchange_made c.args.count c.args.own c.args.row c.args.place (split at) c.clear_rows.new.rows c.enter.new.pivot c.clear_rows-2.new.rows (c.clear_rows.ensures.len ∙ c.split_at_mut-above.ensures.front_len) (c.enter.ensures.len ∙ long at) quotient c.enter.ensures.own reduced first second
+    let primitive = rw (long at) at c.enter.ensures.primitive in
+    exchange_made c.args.count c.args.own c.args.row c.args.place (split at) c.clear_rows.new.rows c.enter.new.pivot c.clear_rows-2.new.rows (c.clear_rows.ensures.len ∙ c.split_at_mut-above.ensures.front_len) (c.enter.ensures.len ∙ long at) quotient c.enter.ensures.own primitive first second

@@ -18,7 +18,7 @@ returns-then-number-eq0-clause-ok c =
     let place = c.args.entry.place in
     let x : FitsSigned w128 (get_or row place (pos 0)) = search rules in
     let zero : numbers row place ≡ pos 0 = sym (to_z-of_z w128 (get_or row place (pos 0)) x) ∙ ap (to_z w128) c.if-number-eq0.true ∙ to_z_pos w128 0 (omega arith) in
-    cleared_none (length row) c.args.entry.number (numbers c.args.pivot.now) row place c.args.entry.own zero c.requires.above c.requires.reduced
+    cleared_none (length row) c.args.entry.number (numbers c.args.pivot.now) row place c.args.entry.own zero c.requires.above c.requires.primitive
 
 pub subtract-requires-clause-narrow : goal.subtract-requires-clause-narrow
 subtract-requires-clause-narrow c =
@@ -67,5 +67,5 @@ returns-clause-ok c =
     let now = entered c.args.entry.place c.args.row.now in
     let long = long at.After-subtract in
     let own : c.args.entry.own < length now = rw long c.requires.own in
-    let made = cleared c.args.pivot.now now c.subtract.new.row c.args.entry.own c.args.entry.number (numbers c.args.row.now c.args.entry.place) c.coprime_parts-by.result.0 c.coprime_parts-by.result.1 own c.subtract.ensures.len c.requires.apart c.requires.other (above at.After-subtract) (low at.After-subtract) (steps at.In_ok-common) c.reduce.new.row c.reduce.ensures.quotient c.reduce.ensures.own c.reduce.ensures.reduced in
+    let made = cleared c.args.pivot.now now c.subtract.new.row c.args.entry.own c.args.entry.number (numbers c.args.row.now c.args.entry.place) c.coprime_parts-by.result.0 c.coprime_parts-by.result.1 own c.subtract.ensures.len c.requires.apart c.requires.other (above at.After-subtract) (low at.After-subtract) (steps at.In_ok-common) c.reduce.new.row c.reduce.ensures.quotient c.reduce.ensures.own c.reduce.ensures.primitive in
     rw long at made

@@ -3,7 +3,7 @@ use Rattle.std.proofs.lemmas.Int.{ints, to_z-of_z}
 use Rattle.std.specs.Int.{w128}
 use Rattle.std.proofs.Math.Nat.{one-dvd}
 use Rattle.zr_base.specs.Steps.{cross_of}
-use Rattle.zr_simplex.specs.StuckSteps.{AreCoprimeParts, IsMultiple}
+use Rattle.zr_simplex.specs.StuckSteps.{AreCoprimeParts, IsLeastCommonMultiple}
 use Rattle.zr_simplex.specs.Tableaus.{basis_of, form_of}
 use Rattle.zr_simplex.proofs.Multiples.{more_narrow, more_is}
 use Rattle.zr_simplex.proofs.solution.common_multiple.Goals as goal
@@ -19,7 +19,7 @@ low c =
     let is : c.number.result ≡ own c = c.number.ensures.value ∙ ap (form_of c.args.tableau.now c.loop-i.i) c.own.ensures in
     rw is at (simp to_z-of_z at c.coprime_parts-by.ensures)
 
-start : (basis : ℕ → ℕ) (form : ℕ → ℕ → ℤ) → IsMultiple basis form 0 (pos 1)
+start : (basis : ℕ → ℕ) (form : ℕ → ℕ → ℤ) → IsLeastCommonMultiple basis form 0 (pos 1)
 start basis form = record {
   positive = omega (arith, ints);
   multiple = λ i h. absurd (omega arith);
@@ -39,7 +39,7 @@ returns-in-Err-clause-err c =
     let den = to_z w128 c.loop-i.den-bits in
     let b : FitsSigned w128 c.coprime_parts-by.result.0 = search rules in
     let step : cross_of (den, c.coprime_parts-by.result.0) (pos 0, pos 0) ≡ Err c.in-Err.wide = sym (simp to_z-of_z at c.cross.ensures) ∙ c.in-Err.is in
-    (c.loop-i-test.true, (den, c.coprime_parts-by.result.0, c.coprime_parts-by.result.1, c.loop-i.invariant.multiple, low at.After-coprime_parts-by, step))
+    (c.loop-i-test.true, (den, c.coprime_parts-by.result.0, c.coprime_parts-by.result.1, c.loop-i.invariant.narrow, c.loop-i.invariant.multiple, low at.After-coprime_parts-by, step))
 
 pub loop-i-preserved : goal.loop-i-preserved
 unfolding own

@@ -1,6 +1,6 @@
 use Rattle.std.proofs.Common.{rules, ◌≡◌, ◌<◌, ◌≤◌, ◌+◌, ℕ, pos, neg_ℤ, arith, refl, ap, ◌∙◌, length, slice_index}
 use Rattle.zr_simplex.specs.Programs.{program_of}
-use Rattle.zr_simplex.specs.RowSteps.{IsStart}
+use Rattle.zr_simplex.specs.RowSteps.{IsFirstEquation}
 use Rattle.zr_simplex.specs.Tableaus.{basis_of, form_in, form_of, row_in}
 use Rattle.zr_simplex.proofs.Begin.{start_form, start_complete}
 use Rattle.zr_simplex.proofs.First.{AreFirst, are_columns, first_start}
@@ -43,8 +43,8 @@ returns-clause-kept c =
     let w : n + 2 ≡ length c.in_ok-free.free.items + 1 = omega (arith, first.free_long) in
     let form : form_of t ≡ form_in c.in_ok-stands.stands.items (length c.in_ok-free.free.items) all = rw (made.columns, made.free, made.numbers) refl in
     let basis : (i : ℕ) → i ≤ m → basis_of t i ≡ n + i = λ i h. ap (λ b. slice_index b i) made.basis ∙ first.slacks i (omega arith) in
-    let starts : (i : ℕ) → i < m → IsStart n (n + m) (n + i) (p.coef i) (p.le i) (form_of t i) = λ i h. rw form (first_start first i (omega (arith, h)) (p.coef i) (p.le i) (row_in (length c.in_ok-free.free.items + 1) all i) (rw w at (numbers.rows i h))) in
-    let last : IsStart n (n + m) (n + m) (λ j. neg_ℤ (p.aim j)) (pos 0) (form_of t m) = rw form (first_start first m (omega arith) (λ j. neg_ℤ (p.aim j)) (pos 0) (row_in (length c.in_ok-free.free.items + 1) all m) (rw w at numbers.value)) in
+    let starts : (i : ℕ) → i < m → IsFirstEquation n (n + m) (n + i) (p.coef i) (p.le i) (form_of t i) = λ i h. rw form (first_start first i (omega (arith, h)) (p.coef i) (p.le i) (row_in (length c.in_ok-free.free.items + 1) all i) (rw w at (numbers.rows i h))) in
+    let last : IsFirstEquation n (n + m) (n + m) (λ j. neg_ℤ (p.aim j)) (pos 0) (form_of t m) = rw form (first_start first m (omega arith) (λ j. neg_ℤ (p.aim j)) (pos 0) (row_in (length c.in_ok-free.free.items + 1) all m) (rw w at numbers.value)) in
     record {
       count = ap length made.basis ∙ first.basis_long;
       width = made.width ∙ first.long;

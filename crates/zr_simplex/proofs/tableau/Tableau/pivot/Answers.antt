@@ -5,7 +5,7 @@ use Rattle.zr_simplex.specs.declared.columns.Column.TheVariants.{Basic, Free}
 use Rattle.zr_simplex.specs.Tableaus.{Holds, column_at, form_of, row_in}
 use Rattle.zr_simplex.proofs.Condensed.{pivot_out, wide_out, column_inside}
 use Rattle.zr_simplex.proofs.Grids.{row_in-length}
-use Rattle.zr_simplex.proofs.Held.{above_in, reduced_each, own_pivot, is_own}
+use Rattle.zr_simplex.proofs.Held.{above_in, primitive_each, own_pivot, is_own}
 use Rattle.zr_simplex.proofs.Stands.{exchanged, exchanged-length, partition_of}
 use Rattle.zr_simplex.proofs.tableau.Tableau.pivot.Goals as goal
 use Rattle.zr_simplex.proofs.tableau.Tableau.pivot.Goals.{After-index, After-len-2}
@@ -42,14 +42,14 @@ exchange-requires-clause-above c i h =
     let own : c.len-2.result ≡ length t.free.items = search rules in
     rw (own, c.deref_mut.ensures.value) (above_in c.self.invariant.2 t.numbers.items solved i low)
 
-pub exchange-requires-clause-reduced : goal.exchange-requires-clause-reduced
+pub exchange-requires-clause-primitive : goal.exchange-requires-clause-primitive
 unfolding form_of
-exchange-requires-clause-reduced c i h =
+exchange-requires-clause-primitive c i h =
     let t = c.self.inside in
     let solved = rw (← c.self.view_is) at c.requires.solved in
     let low : i < length t.basis.items = search rules in
     let own : c.len-2.result ≡ length t.free.items = search rules in
-    rw (own, c.deref_mut.ensures.value) (reduced_each c.self.invariant.2 t.numbers.items solved i low)
+    rw (own, c.deref_mut.ensures.value) (primitive_each c.self.invariant.2 t.numbers.items solved i low)
 
 pub returns-in-Err-clause-partition : goal.returns-in-Err-clause-partition
 returns-in-Err-clause-partition c = partition_of c.self.invariant.2

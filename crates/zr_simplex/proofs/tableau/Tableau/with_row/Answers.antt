@@ -3,7 +3,7 @@ use Rattle.std.proofs.lemmas.List.{get_or_push, with_items_is}
 use Rattle.std.specs.Vec.{with_items}
 use Rattle.zr_simplex.specs.Programs.{numbers}
 use Rattle.zr_simplex.specs.Tableaus.{form_of}
-use Rattle.zr_simplex.proofs.Added.{IsAdded, row_kept, row_made, row_own, row_reduced, value_kept}
+use Rattle.zr_simplex.proofs.Added.{IsAdded, row_kept, row_made, row_own, row_primitive, value_kept}
 use Rattle.zr_simplex.proofs.Stands.{partition_of}
 use Rattle.zr_simplex.proofs.tableau.Tableau.with_row.Goals as goal
 
@@ -56,5 +56,5 @@ returns c m n v count free_count width =
       last = λ j q. rw (new, free_long, off) (value_kept added j q);
       made = rw (new, free_long) (row_made added (numbers c.args.made.now) cleared (rw home at equation.made));
       own = rw (new, free_long) (row_own added equation.own);
-      reduced = rw (new, free_long) (row_reduced added equation.reduced);
+      primitive = rw (new, free_long) (row_primitive added equation.primitive);
     })

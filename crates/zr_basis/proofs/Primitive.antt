@@ -10,8 +10,7 @@ use Rattle.zr_base.proofs.Divisors.{cancel, nonneg_abs}
 use Rattle.zr_base.proofs.Gcds.{gcd_of_is}
 use Rattle.zr_base.proofs.Lowest.{divides_other}
 use Rattle.zr_basis.specs.Programs.{Program}
-use Rattle.zr_basis.specs.BasicForms.{right_column, IsReduced, IsBasicForm}
-use Rattle.zr_basis.specs.Stages.{Determines}
+use Rattle.zr_basis.specs.BasicForms.{right_column, IsPrimitive, IsBasicForm}
 use Rattle.zr_basis.proofs.Among.{HaveSameColumns, have_same}
 use Rattle.zr_basis.specs.Bases.{IsSameBasis}
 use Rattle.zr_basis.proofs.Unique.{in_proportion}
@@ -32,15 +31,15 @@ swap_gcd : (a b g : ℕ) → IsGcd a b g → IsGcd b a g
 swap_gcd a b g (p, q, r) = (q, p, λ d x y. r d y x)
 
 -- a factor of one side that shares nothing with the other factor is 1
-is_one : (n : ℕ) (f : ℕ → ℤ) (u : ℕ → ℕ) (a b h x y : ℕ) → 0 < h → IsReduced n f → IsGcd y x 1 → x * h ≡ a → y * h ≡ b → ((j : ℕ) → j < n → a * u j ≡ b * unsigned_abs (f j)) → x ≡ 1
-is_one n f u a b h x y positive reduced coprime first second each =
-    reduced x (λ j q. divides_it x y (unsigned_abs (f j)) coprime (dvd_of_mul-dvd-mul_right x positive (subst (λ z. x * h ∣ z) (reorder y h (unsigned_abs (f j))) (subst (λ z. x * h ∣ z * unsigned_abs (f j)) (sym second) (subst (λ z. z ∣ b * unsigned_abs (f j)) (sym first) (subst (λ z. a ∣ z) (each j q) (dvd-mul_right a (u j))))))))
+is_one : (n : ℕ) (f : ℕ → ℤ) (u : ℕ → ℕ) (a b h x y : ℕ) → 0 < h → IsPrimitive n f → IsGcd y x 1 → x * h ≡ a → y * h ≡ b → ((j : ℕ) → j < n → a * u j ≡ b * unsigned_abs (f j)) → x ≡ 1
+is_one n f u a b h x y positive primitive coprime first second each =
+    primitive x (λ j q. divides_it x y (unsigned_abs (f j)) coprime (dvd_of_mul-dvd-mul_right x positive (subst (λ z. x * h ∣ z) (reorder y h (unsigned_abs (f j))) (subst (λ z. x * h ∣ z * unsigned_abs (f j)) (sym second) (subst (λ z. z ∣ b * unsigned_abs (f j)) (sym first) (subst (λ z. a ∣ z) (each j q) (dvd-mul_right a (u j))))))))
   where
     reorder : (y h v : ℕ) → (y * h) * v ≡ (y * v) * h
     reorder y h v = omega arith
 
-pub reduced_same : (n : ℕ) (e f : ℕ → ℤ) (m o : ℤ) → (pos 0) <ℤ m → (pos 0) <ℤ o → IsReduced n e → IsReduced n f → ((j : ℕ) → j < n → m *ℤ e j ≡ o *ℤ f j) → (j : ℕ) → j < n → e j ≡ f j
-reduced_same n e f m o mp op re rf each j q =
+pub primitive_same : (n : ℕ) (e f : ℕ → ℤ) (m o : ℤ) → (pos 0) <ℤ m → (pos 0) <ℤ o → IsPrimitive n e → IsPrimitive n f → ((j : ℕ) → j < n → m *ℤ e j ≡ o *ℤ f j) → (j : ℕ) → j < n → e j ≡ f j
+primitive_same n e f m o mp op re rf each j q =
     let a = unsigned_abs m in
     let b = unsigned_abs o in
     let h = gcd_of a b in
@@ -58,11 +57,11 @@ reduced_same n e f m o mp op re rf each j q =
     cancel (e j) (f j) m mp (*ℤ_comm (e j) m ∙ each j q ∙ ap (λ z. z *ℤ f j) (sym equal) ∙ *ℤ_comm m (f j))
 
 -- bases with the same columns have the same equations
-pub same_equations : (p : Program) (basis other : ℕ → ℕ) (form made : ℕ → ℕ → ℤ) → IsBasicForm p basis form → Determines p basis → IsBasicForm p other made → HaveSameColumns p basis other → (i k : ℕ) → i ≤ p.rows → k ≤ p.rows → basis i ≡ other k → (j : ℕ) → j ≤ right_column p → form i j ≡ made k j
-same_equations p basis other form made basic determines second same i k h q e j b =
-    reduced_same (p.columns + p.rows + 2) (form i) (made k) (made k (other k)) (form i (basis i)) (second.own k q) (basic.own i h) (basic.reduced i h) (second.reduced k q) (λ j c. in_proportion p basis other form made basic determines second same i k h q e j (omega arith)) j (omega arith)
+pub same_equations : (p : Program) (basis other : ℕ → ℕ) (form made : ℕ → ℕ → ℤ) → IsBasicForm p basis form → IsBasicForm p other made → HaveSameColumns p basis other → (i k : ℕ) → i ≤ p.rows → k ≤ p.rows → basis i ≡ other k → (j : ℕ) → j ≤ right_column p → form i j ≡ made k j
+same_equations p basis other form made basic second same i k h q e j b =
+    primitive_same (p.columns + p.rows + 2) (form i) (made k) (made k (other k)) (form i (basis i)) (second.own k q) (basic.own i h) (basic.primitive i h) (second.primitive k q) (λ j c. in_proportion p basis other form made basic second same i k h q e j (omega arith)) j (omega arith)
 
 -- the same, from the columns before the value's
-pub one_form : (p : Program) (basis other : ℕ → ℕ) (form made : ℕ → ℕ → ℤ) → IsBasicForm p basis form → Determines p basis → IsBasicForm p other made → IsSameBasis p.rows basis other → (i k : ℕ) → i ≤ p.rows → k ≤ p.rows → basis i ≡ other k → (j : ℕ) → j ≤ right_column p → form i j ≡ made k j
-one_form p basis other form made basic determines second same =
-    same_equations p basis other form made basic determines second (have_same p basis other basic.value second.value same)
+pub one_form : (p : Program) (basis other : ℕ → ℕ) (form made : ℕ → ℕ → ℤ) → IsBasicForm p basis form → IsBasicForm p other made → IsSameBasis p.rows basis other → (i k : ℕ) → i ≤ p.rows → k ≤ p.rows → basis i ≡ other k → (j : ℕ) → j ≤ right_column p → form i j ≡ made k j
+one_form p basis other form made basic second same =
+    same_equations p basis other form made basic second (have_same p basis other basic.value second.value same)
