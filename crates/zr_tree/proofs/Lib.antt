@@ -14,3 +14,7 @@ pub mod Combined
 pub mod ProofLaws
 pub mod Greatest
 pub mod TreeForms
+pub mod ColumnSums
+pub mod KnownRows
+pub mod SignedTerms
+pub mod TaskEnds

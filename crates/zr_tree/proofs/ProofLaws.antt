@@ -9,11 +9,13 @@ use Rattle.zr_base.proofs.SumSteps.{sum_steps_exact}
 use Rattle.zr_base.proofs.Telling.{both_true, true_both}
 use Rattle.zr_game.specs.Players.{PlayerOf}
 use Rattle.zr_game.specs.Leaves.{Bound, LeafOf, bound_with, slots}
-use Rattle.zr_tree.specs.Nodes.{Multipliers}
+use Rattle.zr_tree.specs.Nodes.{Multipliers, ProofNode}
+use Rattle.zr_tree.specs.Covers.{KeepsCover}
+use Rattle.zr_tree.specs.CoverSteps.{IsWideForCover}
 use Rattle.zr_tree.specs.Right.{ArePositive, ArePresent, IsProof, IsRefuting, IsScaled, left_of, right_of, slot_coef, slot_le}
 use Rattle.zr_tree.specs.Steps.{IsWideProof, left_steps, right_steps}
 use Rattle.zr_tree.specs.Combining.{HasWideStep, IsCombined}
-use Rattle.zr_tree.specs.Visits.{ProofTells}
+use Rattle.zr_tree.specs.Visits.{EndTells, ProofTells}
 use Rattle.zr_tree.proofs.Combined.{product_of}
 
 ok_err : {A : Type 0} (r : Result A Wide) (a : A) → r ≡ Ok a → IsErr r → ⊥
@@ -114,3 +116,54 @@ module _ (player : PlayerOf) (coef : List ℤ) (le : ℤ) (leaf : LeafOf) (scale
           back : IsProof player bound leaf scale mult → IsTrue (a && b)
           back p =
               ⊎_elim (λ (s : IsScaled player bound scale rows mult). true_both a b (left.1.1 (λ j q. let r : j < length player.vars = omega (arith, q, same) in sym (left_sum j r) ∙ s.left j r)) (below.1.1 (inl (s.positive, rw right_sum at s.right)))) (λ (s : IsRefuting player scale rows mult). true_both a b (left.1.1 (λ j q. let r : j < length player.vars = omega (arith, q, same) in sym (left_sum j r) ∙ s.left j r ∙ sym (zero_times (get_or coef j (pos 0)) s.none))) (below.1.1 (inr (s.none, rw right_sum at s.right)))) p.2
+
+-- the same for a cover
+module _ (player : PlayerOf) (leaf : LeafOf) (scale : ℤ) (mult : Multipliers)
+    (present : ArePresent (slots player leaf) mult) (positive : ArePositive mult)
+    (sums : List ℤ) (right : ℤ) (combined : IsCombined (slots player leaf) mult sums right)
+    (places : length sums ≡ length player.vars) where
+  left_made : (j : ℕ) → j < length player.vars
+      → left_of (slots player leaf) mult j ≡ get_or sums j (pos 0)
+  left_made j h =
+      let e = sum_steps_exact (pos 0) (get_or sums j (pos 0))
+      (map (product_of (λ k. slot_coef (slots player leaf) k j)) mult)
+      (combined.left j (omega (arith, h, places))) in
+      let f = left_is (slots player leaf) mult j in
+      omega (arith, ints, e, f)
+
+  right_made : right_of (slots player leaf) mult ≡ right
+  right_made =
+      let e = sum_steps_exact (pos 0) right (map (product_of (slot_le (slots player leaf))) mult)
+      combined.right in
+      let f = right_is (slots player leaf) mult in
+      omega (arith, ints, e, f)
+
+  none_wide : HasWideStep (length player.vars) (slots player leaf) mult → ⊥
+  none_wide w =
+      ⊎_elim (λ s. ok_err (left_steps (slots player leaf) mult s.0) (get_or sums s.0 (pos 0))
+      (combined.left s.0 (omega (arith, s.1, places))) s.2)
+      (λ s. ok_err (right_steps (slots player leaf) mult) right combined.right s) w
+
+  pub refuted_tells : (zeros below : Bool)
+      → (IsTrue zeros ↔ ((j : ℕ) → j < length sums → get_or sums j (pos 0) ≡ pos 0))
+      → (IsTrue below ↔ ((scale ≡ pos 0) × (right <ℤ (pos 0))))
+      → EndTells (Ok (zeros && below)) (KeepsCover player) (IsWideForCover player) leaf
+      (ProofNode scale mult)
+  refuted_tells zeros below lefts rights = (
+    λ w. none_wide w.1,
+    (
+      λ h. let b = both_true zeros below h in (
+        present,
+        positive,
+        record {
+          none = (rights.0 b.1).0;
+          left = λ j q. left_made j q ∙ lefts.0 b.0 j (omega (arith, q, places));
+          right = rw right_made (rights.0 b.1).1;
+        },
+      ),
+      λ p. true_both zeros below
+          (lefts.1 (λ j q. let r : j < length player.vars = omega (arith, q, places) in
+          sym (left_made j r) ∙ p.2.left j r))
+          (rights.1 (p.2.none, rw right_made at p.2.right)),
+    ),
+  )

@@ -11,3 +11,6 @@ pub mod Rooms
 pub mod SlotRows
 pub mod Combining
 pub mod Visits
+pub mod Covers
+pub mod CoverSteps
+pub mod Tasks

@@ -1,6 +1,6 @@
 -- The rows of slots as the code has them.
-use Rattle.std.specs.Prelude.{ℕ, ◌<◌, ℤ, neg_ℤ, Bool, true, false, List, Option}
-use Rattle.zr_base.specs.Terms.{coef_at}
+use Rattle.std.specs.Prelude.{ℕ, ◌<◌, ℤ, neg_ℤ, Bool, true, false, List, [], ◌∷◌, map, Option}
+use Rattle.zr_base.specs.Terms.{Terms as TermList, coef_at}
 use Rattle.zr_game.specs.Forms.{AreTerms}
 use Rattle.zr_game.specs.declared.leaf.Leaf.{Leaf}
 use Rattle.zr_game.specs.declared.player.Player.{Player}
@@ -31,3 +31,12 @@ slot_bound row = record { coef = left_coef row.left; le = row.le }
 abbrev pub IsLeft : ℕ → Left → Type 0
 IsLeft columns (Terms terms negated) = AreTerms columns terms.now
 IsLeft columns (Column var number) = var < columns
+
+-- terms, with the signs of their numbers turned where that is wanted
+abbrev pub signed_terms : Bool → TermList → TermList
+signed_terms negated terms = map (λ t. (t.0, signed negated t.1)) terms
+
+-- the numbers that aren't zero, by column
+abbrev pub left_terms : Left → TermList
+left_terms (Terms terms negated) = signed_terms negated terms.now
+left_terms (Column var number) = (var, number) ∷ []

@@ -1,5 +1,5 @@
 -- What is asked of one node of a tree, and the leaves of its children.
-use Rattle.std.specs.Prelude.{◌≡◌, ◌↔◌, ℕ, ℤ, Bool, IsTrue, Result, Ok, Err, List, [], ◌∷◌, length}
+use Rattle.std.specs.Prelude.{◌≡◌, ◌↔◌, ℕ, ◌+◌, ◌*◌, ◌^◌, ◌<◌, ℤ, Bool, IsTrue, Result, Ok, Err, List, [], ◌∷◌, length}
 use Rattle.std.specs.List.{All}
 use Rattle.zr_base.specs.declared.step.Wide.{Wide}
 use Rattle.zr_game.specs.declared.leaf.Side.TheVariants.{VarZero, RowZero}
@@ -9,13 +9,14 @@ use Rattle.zr_game.specs.Leaves.{Bound, IsOpenPair, IsWholeVar, LeafOf, above, b
 use Rattle.zr_tree.specs.declared.fault.Fault.{Fault}
 use Rattle.zr_tree.specs.declared.fault.Fault.TheVariants.{Bad}
 use Rattle.zr_tree.specs.Nodes.{Multipliers, NodeOf, SplitNode, ChooseNode, ProofNode, KnownNode, LooseNode}
-use Rattle.zr_tree.specs.Right.{EndRule, IsProof, ProvesRow}
-use Rattle.zr_tree.specs.Steps.{EndPasses, EndRefused, IsWideForRow, IsWideProof}
+use Rattle.zr_tree.specs.Right.{EndRule, ProvesRow}
+use Rattle.zr_tree.specs.Steps.{EndPasses, EndRefused, IsWideForRow}
 
--- the player's rows and pairs keep the rules
+-- the player's rows and pairs keep the rules, and there are few of them
 pub record HasForms (player : PlayerOf) : Type 0 where
   pub rows : All (IsRowForm (length player.vars)) player.rows
   pub pairs : All (IsPairForm (length player.vars)) player.pairs
+  pub few : length player.rows + (length player.vars + length player.pairs) * 2 < 2 ^ 32
 
 -- the leaves of a node's children
 abbrev pub children : LeafOf → NodeOf → List LeafOf
@@ -42,16 +43,12 @@ NodeRefused right wide player k leaf (ProofNode scale mult) fault =
 NodeRefused right wide player k leaf (KnownNode x) fault = EndRefused right wide k leaf (KnownNode x) fault
 NodeRefused right wide player k leaf LooseNode fault = EndRefused right wide k leaf LooseNode fault
 
--- the two for a row
-abbrev pub NodePassesRow : PlayerOf → Bound → LeafOf → NodeOf → Type 0
-NodePassesRow player bound leaf node = NodePasses (ProvesRow player bound) (IsWideForRow player bound) player leaf node
+-- the answer at an end: whether it keeps the rule, where no step is too wide
+abbrev pub EndTells : Result Bool Wide → EndRule → EndRule → LeafOf → NodeOf → Type 0
+EndTells (Ok keeps) right wide leaf node = (wide leaf node → ⊥) × (IsTrue keeps ↔ right leaf node)
+EndTells (Err w) right wide leaf node = wide leaf node
 
-abbrev pub NodeRefusesRow : PlayerOf → Bound → ℕ → LeafOf → NodeOf → Fault → Type 0
-NodeRefusesRow player bound k leaf node fault =
-    NodeRefused (ProvesRow player bound) (IsWideForRow player bound) player k leaf node fault
-
--- the answer of a leaf's proof: whether it is right, where no step is too wide
+-- the answer of a leaf's proof of a row
 abbrev pub ProofTells : Result Bool Wide → PlayerOf → Bound → LeafOf → ℤ → Multipliers → Type 0
-ProofTells (Ok proves) player bound leaf scale mult =
-    (IsWideProof player bound leaf scale mult → ⊥) × (IsTrue proves ↔ IsProof player bound leaf scale mult)
-ProofTells (Err w) player bound leaf scale mult = IsWideProof player bound leaf scale mult
+ProofTells result player bound leaf scale mult =
+    EndTells result (ProvesRow player bound) (IsWideForRow player bound) leaf (ProofNode scale mult)

@@ -1,4 +1,4 @@
-ghost use Rattle.std.specs.Prelude.{◌≡◌, ◌<◌, ◌≤◌, ◌↔◌, ◌^◌, pos, ◌≤ℤ◌, [], ◌∷◌, IsOk, IsTrue, IfErr, OnOk, length, map};
+ghost use Rattle.std.specs.Prelude.{◌≡◌, ◌<◌, ◌≤◌, ◌↔◌, ◌^◌, ◌≤ℤ◌, IsOk, IsTrue, IfErr, OnOk, length, map};
 ghost use Rattle.std.specs.List.{All};
 ghost use Rattle.zr_base.specs.Points.{PointOf};
 ghost use Rattle.zr_game.specs.Players.{PlayerOf, player_of};
@@ -6,21 +6,25 @@ ghost use Rattle.zr_game.specs.Games.{game_of};
 ghost use Rattle.zr_game.specs.Forms.{IsPlayer};
 ghost use Rattle.zr_game.specs.Feasible.{IsFeasible};
 ghost use Rattle.zr_game.specs.Leaves.{BoundHolds, IsOpenPair, IsWholeVar, bound_with, leaf_of, root_leaf};
-ghost use Rattle.zr_tree.specs.Nodes.{ChooseNode, ProofNode, SplitNode, node_of};
-ghost use Rattle.zr_tree.specs.Form.{IsNodeForm, greatest_split};
+ghost use Rattle.zr_tree.specs.Nodes.{ChooseNode, SplitNode, node_of};
+ghost use Rattle.zr_tree.specs.Form.{IsNodeForm, child_count, greatest_split};
 ghost use Rattle.zr_tree.specs.Trees.{TreeOf, preorder};
 ghost use Rattle.zr_tree.specs.Listed.{IsTreeOf};
-ghost use Rattle.zr_tree.specs.Right.{ArePositive, IsRight};
+ghost use Rattle.zr_tree.specs.Right.{IsRight};
 ghost use Rattle.zr_tree.specs.Steps.{HasWideProof, IsRefusedAt, Passes};
 ghost use Rattle.zr_tree.specs.Scratches.{most_pairs, most_vars};
 ghost use Rattle.zr_tree.specs.Paths.{Entered, HasPlaces, IsPathOf, IsSameSize};
-ghost use Rattle.zr_tree.specs.Visits.{HasForms, NodePassesRow, NodeRefusesRow, children};
+ghost use Rattle.zr_tree.specs.Visits.{HasForms, children};
+ghost use Rattle.zr_tree.specs.Covers.{IsCover};
+ghost use Rattle.zr_tree.specs.CoverSteps.{CoverPasses, IsRefusedCover, IsWideCover};
+ghost use Rattle.zr_tree.specs.Tasks.{FitsColumns, NodeDoes, NodeFails, TreeDoes, TreeFails};
 
+use crate::end::keeps;
 use crate::fault::Fault;
 use crate::node::Node;
 use crate::path::{Path, enter_choice, enter_split, go_on, start};
-use crate::proof::proves;
 use crate::scratch::{Room, Scratch};
+use crate::task::Task;
 use crate::tree::Tree;
 use zr_game::{Game, Leaf, Player, Side};
 
@@ -67,60 +71,85 @@ pub fn bounds(
     ensures places { scratch.new ≡ scratch.old }
 {
     let player = &game.players[i as usize];
-    walk(player, &tree.nodes, coef, le, &mut scratch.room)
+    walk(
+        player,
+        &tree.nodes,
+        Task::Row { coef, le },
+        &mut scratch.room,
+    )
+}
+
+/// Whether the tree is a cover of the points of player `i`, which is below the number of players:
+/// the leaves at its Known and Loose nodes hold all of them, and those of a Known node's leaf are
+/// the points that meet its rows.
+///
+/// The tree is walked as `bounds` walks it. The first node that is refused is the answer: a split
+/// of a variable that isn't whole or doesn't exist; a choice of a pair that is decided or doesn't
+/// exist; a leaf whose slots, multiplied, don't refute it with the scale 0; and a Known node whose
+/// leaf isn't settled, or whose point has another number of variables or fails the row of a slot
+/// that is present. Where all slots are present, and where the point has a number for each
+/// variable, a sum that is too wide comes before that.
+///
+/// `scratch` has places for the tree's nodes, the player's variables, and the greatest numbers of
+/// variables and pairs of the game; it keeps them.
+pub fn cover(game: &Game, i: u32, tree: &Tree, scratch: &mut Scratch) -> Result<(), Fault>
+    requires number { i < length (game_of game.now) }
+    requires nodes { length tree.now.nodes.items ≤ scratch.old.nodes }
+    requires columns { (player : PlayerOf) → IsPlayer (game_of game.now) i player
+        → length player.vars ≤ scratch.old.columns }
+    requires vars { most_vars (game_of game.now) ≤ scratch.old.vars }
+    requires pairs { most_pairs (game_of game.now) ≤ scratch.old.pairs }
+    ensures ok { OnOk result ((player : PlayerOf) → IsPlayer (game_of game.now) i player
+        → (t : TreeOf) → IsTreeOf tree.now t → CoverPasses player (root_leaf player) t) }
+    ensures err { IfErr result (λ fault. (player : PlayerOf) → IsPlayer (game_of game.now) i player
+        → (t : TreeOf) → IsTreeOf tree.now t
+        → IsRefusedCover player 0 (root_leaf player) t fault) }
+    ensures exact { (player : PlayerOf) → IsPlayer (game_of game.now) i player
+        → (t : TreeOf) → IsTreeOf tree.now t
+        → IsOk result ↔ (IsCover player (root_leaf player) t
+        × (IsWideCover player (root_leaf player) t → ⊥)) }
+    ensures places { scratch.new ≡ scratch.old }
+{
+    let player = &game.players[i as usize];
+    walk(player, &tree.nodes, Task::Cover, &mut scratch.room)
 }
 
 /// Walks the tree from its root.
-fn walk(
-    player: &Player,
-    nodes: &[Node],
-    coef: &[i128],
-    le: i128,
-    room: &mut Room,
-) -> Result<(), Fault>
+fn walk(player: &Player, nodes: &[Node], task: Task, room: &mut Room) -> Result<(), Fault>
     requires forms { HasForms (player_of player.now) }
     requires places { HasPlaces (player_of player.now) room.old.path.leaf }
-    requires coef { length coef.now ≡ length (player_of player.now).vars }
+    requires task { FitsColumns (length (player_of player.now).vars) task }
     requires columns { length (player_of player.now).vars ≤ length room.old.sums.items }
     requires frames { length nodes.now ≤ length room.old.path.frames.items }
     requires few { length nodes.now < 2 ^ 32 }
     requires nodes { All IsNodeForm (map node_of nodes.now) }
     ensures ok { OnOk result ((t : TreeOf) → preorder t ≡ map node_of nodes.now
-        → Passes (player_of player.now) (bound_with coef.now le)
-        (root_leaf (player_of player.now)) t) }
+        → TreeDoes task.entry (player_of player.now) (root_leaf (player_of player.now)) t) }
     ensures err { IfErr result (λ fault. (t : TreeOf) → preorder t ≡ map node_of nodes.now
-        → IsRefusedAt (player_of player.now) (bound_with coef.now le) 0
-        (root_leaf (player_of player.now)) t fault) }
+        → TreeFails task.entry (player_of player.now) 0 (root_leaf (player_of player.now)) t fault) }
     ensures size { IsSameSize room.old.path room.new.path }
     ensures sums { length room.new.sums.items ≡ length room.old.sums.items }
 {
     start(player, &mut room.path);
     for (k, node) in nodes.iter().enumerate() {
-        visit(player, node, k as u32, coef, le, room)?;
+        visit(player, node, k as u32, task, room)?;
     }
     Ok(())
 }
 
 /// Tests node `k` and goes on to its children or to the next leaf that is due.
-fn visit(
-    player: &Player,
-    node: &Node,
-    k: u32,
-    coef: &[i128],
-    le: i128,
-    room: &mut Room,
-) -> Result<(), Fault>
+fn visit(player: &Player, node: &Node, k: u32, task: Task, room: &mut Room) -> Result<(), Fault>
     requires forms { HasForms (player_of player.now) }
     requires path { IsPathOf (player_of player.now) room.old.path }
-    requires coef { length coef.now ≡ length (player_of player.now).vars }
+    requires task { FitsColumns (length (player_of player.now).vars) task }
     requires columns { length (player_of player.now).vars ≤ length room.old.sums.items }
     requires place { room.old.path.depth < length room.old.path.frames.items }
     requires node { IsNodeForm (node_of node.now) }
-    ensures ok { OnOk result (NodePassesRow (player_of player.now) (bound_with coef.now le)
+    ensures ok { OnOk result (NodeDoes task.entry (player_of player.now)
         (leaf_of room.old.path.leaf) (node_of node.now)) }
     ensures entered { OnOk result (Entered (player_of player.now)
         (children (leaf_of room.old.path.leaf) (node_of node.now)) room.old.path room.new.path) }
-    ensures err { IfErr result (NodeRefusesRow (player_of player.now) (bound_with coef.now le) k
+    ensures err { IfErr result (NodeFails task.entry (player_of player.now) k
         (leaf_of room.old.path.leaf) (node_of node.now)) }
     ensures size { IsSameSize room.old.path room.new.path }
     ensures sums { length room.new.sums.items ≡ length room.old.sums.items }
@@ -128,9 +157,9 @@ fn visit(
     match node {
         Node::Split { var, at } => visit_split(player, *var, *at, k, &mut room.path),
         Node::Choose { pair } => visit_choice(player, *pair, k, &mut room.path),
-        Node::Leaf { scale, mult } => visit_proof(player, *scale, mult, k, coef, le, room),
-        Node::Known { point: _ } => Err(Fault::Bad(k)),
-        Node::Loose => Err(Fault::Bad(k)),
+        Node::Leaf { scale: _, mult: _ } | Node::Known { point: _ } | Node::Loose => {
+            visit_end(player, node, k, task, room)
+        }
     }
 }
 
@@ -170,37 +199,24 @@ fn visit_choice(player: &Player, pair: u32, k: u32, path: &mut Path) -> Result<(
     Ok(())
 }
 
-fn visit_proof(
-    player: &Player,
-    scale: i128,
-    mult: &[(u32, i128)],
-    k: u32,
-    coef: &[i128],
-    le: i128,
-    room: &mut Room,
-) -> Result<(), Fault>
+/// Tests node `k`, which has no children, and goes on to the next leaf that is due.
+fn visit_end(player: &Player, node: &Node, k: u32, task: Task, room: &mut Room) -> Result<(), Fault>
     requires forms { HasForms (player_of player.now) }
     requires path { IsPathOf (player_of player.now) room.old.path }
-    requires coef { length coef.now ≡ length (player_of player.now).vars }
+    requires task { FitsColumns (length (player_of player.now).vars) task }
     requires columns { length (player_of player.now).vars ≤ length room.old.sums.items }
-    requires positive { ArePositive mult.now }
-    ensures ok { OnOk result (NodePassesRow (player_of player.now) (bound_with coef.now le)
-        (leaf_of room.old.path.leaf) (ProofNode scale mult.now)) }
-    ensures entered { OnOk result (Entered (player_of player.now) [] room.old.path room.new.path) }
-    ensures err { IfErr result (NodeRefusesRow (player_of player.now) (bound_with coef.now le) k
-        (leaf_of room.old.path.leaf) (ProofNode scale mult.now)) }
+    requires node { IsNodeForm (node_of node.now) }
+    requires end { child_count (node_of node.now) ≡ 0 }
+    ensures ok { OnOk result (NodeDoes task.entry (player_of player.now)
+        (leaf_of room.old.path.leaf) (node_of node.now)) }
+    ensures entered { OnOk result (Entered (player_of player.now)
+        (children (leaf_of room.old.path.leaf) (node_of node.now)) room.old.path room.new.path) }
+    ensures err { IfErr result (NodeFails task.entry (player_of player.now) k
+        (leaf_of room.old.path.leaf) (node_of node.now)) }
     ensures size { IsSameSize room.old.path room.new.path }
     ensures sums { length room.new.sums.items ≡ length room.old.sums.items }
 {
-    match proves(
-        player,
-        &room.path.leaf,
-        scale,
-        mult,
-        coef,
-        le,
-        &mut room.sums,
-    ) {
+    match keeps(player, &room.path.leaf, node, task, &mut room.sums) {
         Ok(true) => {
             go_on(player, &mut room.path);
             Ok(())

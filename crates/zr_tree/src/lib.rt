@@ -3,17 +3,20 @@
 
 mod check;
 mod combination;
+mod end;
 mod fault;
 mod form;
+mod known;
 mod laws;
 mod node;
 mod path;
 mod proof;
 mod scratch;
 mod slot;
+mod task;
 mod tree;
 
-pub use check::bounds;
+pub use check::{bounds, cover};
 pub use fault::Fault;
 pub use laws::{law_of_nodes, law_of_passing, law_of_refuted_trees, law_of_right_trees};
 pub use node::Node;

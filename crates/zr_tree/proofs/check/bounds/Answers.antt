@@ -30,7 +30,10 @@ same c player is = one (game_of c.args.game.now) c.args.i (player_of c.index-pla
 pub walk-requires-clause-forms : goal.walk-requires-clause-forms
 walk-requires-clause-forms c =
     let f = form ((goal.at.walk-requires-clause-forms c).After-index-player) in
-    record { rows = f.rows; pairs = f.pairs }
+    let r = f.row_count in
+    let v = f.var_count in
+    let p = f.pair_count in
+    record { rows = f.rows; pairs = f.pairs; few = omega (arith, r, v, p) }
 
 pub walk-requires-clause-places : goal.walk-requires-clause-places
 walk-requires-clause-places c =
@@ -42,9 +45,9 @@ walk-requires-clause-places c =
     let h = c.scratch.invariant.highs in
     record { lows = omega (arith, v, vars, c.requires.vars); highs = omega (arith, v, vars, h, c.requires.vars); sides = omega (arith, p, pairs, c.requires.pairs) }
 
-pub walk-requires-clause-coef : goal.walk-requires-clause-coef
-walk-requires-clause-coef c =
-    let at = (goal.at.walk-requires-clause-coef c).After-index-player in
+pub walk-requires-clause-task : goal.walk-requires-clause-task
+walk-requires-clause-task c =
+    let at = (goal.at.walk-requires-clause-task c).After-index-player in
     c.requires.coef (player_of c.index-player.result.now) (is_player at)
 
 pub walk-requires-clause-columns : goal.walk-requires-clause-columns
