@@ -1,0 +1,20 @@
+//! The linear system whose solutions are a game's equilibria over given leaves.
+#![tactic(auto)]
+
+mod build;
+mod counts;
+mod leaves;
+mod line;
+mod number;
+mod present;
+mod reading;
+mod slot;
+mod unknown;
+
+pub use build::rows;
+pub use counts::{is_exact, leaf_count, named_count, player_count, var_count};
+pub use leaves::{Leaves, Region, SystemError};
+pub use present::{is_present, slot_count};
+pub use unknown::{Unknown, unknowns};
+pub use zr_base::NoMemory;
+pub use zr_game::{Choice, Named};
