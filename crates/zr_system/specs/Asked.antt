@@ -24,17 +24,20 @@ use Rattle.zr_system.specs.Forms.{number_at}
 use Rattle.zr_system.specs.Unknowns.{columns}
 use Rattle.zr_system.specs.Lines.{nothing, slope_form}
 
--- the point, or the base and the direction, have a number for each variable, and none of the direction is too wide
+-- the point, or the base and the direction, have a number for each variable, and none of the
+-- direction is too wide
 abbrev pub IsNamedForm : ℕ → NamedOf → Type 0
 IsNamedForm vars (NamedPoint p) = length p.num ≡ vars
-IsNamedForm vars (NamedRay base dir) = (length base.num ≡ vars) × (length dir ≡ vars) × All IsNarrow dir
+IsNamedForm vars (NamedRay base dir) = (length base.num ≡ vars) × (length dir ≡ vars)
+    × All IsNarrow dir
 
 pub record IsCutForm (vars : ℕ) (cut : Cut) : Type 0 where
   pub len : length cut.coef.items ≡ vars
   pub coef : All IsNarrow cut.coef.items
   pub le : IsNarrow cut.le
 
--- one list of each sort per player, of fewer than 2^32 items; each item has a number for each of the player's variables, and a leaf a side for each pair
+-- one list of each sort per player, of fewer than 2^32 items; each item has a number for each of
+-- the player's variables, and a leaf a side for each pair
 pub record AreLeaves (game : GameOf) (leaves : Leaves) : Type 0 where
   pub regions : length leaves.regions.items ≡ length game
   pub named : length leaves.named.items ≡ length game
@@ -42,16 +45,22 @@ pub record AreLeaves (game : GameOf) (leaves : Leaves) : Type 0 where
   pub few_leaves : All (λ list. length list.items < 2 ^ 32) leaves.regions.items
   pub few_items : All (λ list. length list.items < 2 ^ 32) leaves.named.items
   pub few_cuts : All (λ list. length list.items < 2 ^ 32) leaves.cuts.items
-  pub leaf : (i : ℕ) (player : PlayerOf) → IsPlayer game i player → (list : _) → slice_get leaves.regions.items i ≡ Some list → All (λ region. IsLeafOf player region.leaf) list.items
-  pub item : (i : ℕ) (player : PlayerOf) → IsPlayer game i player → (list : _) → slice_get leaves.named.items i ≡ Some list → All (λ named. IsNamedForm (length player.vars) (named_of named)) list.items
-  pub cut : (i : ℕ) (player : PlayerOf) → IsPlayer game i player → (list : _) → slice_get leaves.cuts.items i ≡ Some list → All (IsCutForm (length player.vars)) list.items
+  pub leaf : (i : ℕ) (player : PlayerOf) → IsPlayer game i player → (list : _)
+      → slice_get leaves.regions.items i ≡ Some list
+      → All (λ region. IsLeafOf player region.leaf) list.items
+  pub item : (i : ℕ) (player : PlayerOf) → IsPlayer game i player → (list : _)
+      → slice_get leaves.named.items i ≡ Some list
+      → All (λ named. IsNamedForm (length player.vars) (named_of named)) list.items
+  pub cut : (i : ℕ) (player : PlayerOf) → IsPlayer game i player → (list : _)
+      → slice_get leaves.cuts.items i ≡ Some list → All (IsCutForm (length player.vars)) list.items
 
 abbrev pub LeafExists : GameOf → LeavesOf → ℕ → ℕ → Type 0
 LeafExists game leaves i k = (i < length game) × (k < leaf_count leaves i)
 
 -- the slot is present in an exact leaf
 abbrev pub SlotExists : GameOf → LeavesOf → ℕ → ℕ → ℕ → Type 0
-SlotExists game leaves i k s = LeafExists game leaves i k × (is_exact leaves i k ≡ true) × IsTrue (is_present game leaves i k s)
+SlotExists game leaves i k s = LeafExists game leaves i k × (is_exact leaves i k ≡ true)
+    × IsTrue (is_present game leaves i k s)
 
 -- the choice names a player and a leaf that exist, and a slot that is present in an exact leaf
 abbrev pub ChoiceExists : GameOf → LeavesOf → Choice → Type 0
@@ -87,12 +96,16 @@ slope_products game leaves i item u =
 -- the unknown has a column, or is the common denominator, whose numbers stand on the right sides
 abbrev pub HasNumbers : GameOf → LeavesOf → Unknown → Type 0
 HasNumbers game leaves u =
-    ((j : ℕ) × (j < length (columns game leaves)) × (slice_index_or (columns game leaves) j One ≡ u)) ⊎ (u ≡ One)
+    ((j : ℕ) × (j < length (columns game leaves))
+    × (slice_index_or (columns game leaves) j One ≡ u)) ⊎ (u ≡ One)
 
--- w is the first step that is too wide in such a sum; all other numbers of the system are numbers of the game, the leaves and the cuts
+-- w is the first step that is too wide in such a sum; all other numbers of the system are numbers
+-- of the game, the leaves and the cuts
 abbrev pub HasWideCoefficient : GameOf → LeavesOf → Wide → Type 0
 HasWideCoefficient game leaves w =
-    (i n : ℕ) × (item : NamedOf) × (u : Unknown) × (i < length game) × (slice_get (named_at leaves i) n ≡ Some item) × HasNumbers game leaves u × (sum_steps (pos 0) (slope_products game leaves i item u) ≡ Err w)
+    (i n : ℕ) × (item : NamedOf) × (u : Unknown) × (i < length game)
+    × (slice_get (named_at leaves i) n ≡ Some item) × HasNumbers game leaves u
+    × (sum_steps (pos 0) (slope_products game leaves i item u) ≡ Err w)
 
 -- what the row speaks of exists
 abbrev pub LineExists : GameOf → LeavesOf → Line → Type 0
@@ -100,17 +113,20 @@ LineExists game leaves (ALine.Weights i negated) = i < length game
 LineExists game leaves (ALine.Slot i k s negated) = LeafExists game leaves i k
 LineExists game leaves (ALine.Weight i k negated) = LeafExists game leaves i k
 LineExists game leaves (ALine.Dual i k s negated) = LeafExists game leaves i k
-LineExists game leaves (ALine.Pull i k v negated) = LeafExists game leaves i k × (v < var_count game i)
+LineExists game leaves (ALine.Pull i k v negated) = LeafExists game leaves i k
+    × (v < var_count game i)
 LineExists game leaves (ALine.Gain i k negated) = LeafExists game leaves i k
 LineExists game leaves (ALine.Named i n) = (i < length game) × (n < length (named_at leaves i))
 LineExists game leaves (ALine.Positive i k) = LeafExists game leaves i k
-LineExists game leaves (ALine.Share i k v negated) = LeafExists game leaves i k × (v < var_count game i)
+LineExists game leaves (ALine.Share i k v negated) = LeafExists game leaves i k
+    × (v < var_count game i)
 LineExists game leaves (ALine.Whole i k) = LeafExists game leaves i k
 
 -- w is the first step that is too wide in the sum of the unknown's number in the row
 abbrev pub IsWideAt : GameOf → LeavesOf → Line → Unknown → Wide → Type 0
 IsWideAt game leaves (ALine.Named i n) u w =
-    sum_steps (pos 0) (slope_products game leaves i (slice_index_or (named_at leaves i) n nothing) u) ≡ Err w
+    sum_steps (pos 0) (slope_products game leaves i (slice_index_or (named_at leaves i) n nothing)
+    u) ≡ Err w
 IsWideAt game leaves (ALine.Weights i negated) u w = ⊥
 IsWideAt game leaves (ALine.Slot i k s negated) u w = ⊥
 IsWideAt game leaves (ALine.Weight i k negated) u w = ⊥
@@ -145,9 +161,11 @@ no_line = ALine.Weights 0 false
 -- a number of one of the unknowns, or of the common denominator, is too wide in the row
 abbrev pub HasWideNumber : GameOf → LeavesOf → List Unknown → Line → Wide → Type 0
 HasWideNumber game leaves order line w =
-    ((j : ℕ) × (j < length order) × IsWideAt game leaves line (slice_index_or order j One) w) ⊎ IsWideAt game leaves line One w
+    ((j : ℕ) × (j < length order) × IsWideAt game leaves line (slice_index_or order j One) w)
+    ⊎ IsWideAt game leaves line One w
 
 -- and that in one of the rows
 abbrev pub HasWideIn : GameOf → LeavesOf → List Unknown → List Line → Wide → Type 0
 HasWideIn game leaves order lines w =
-    (m : ℕ) × (m < length lines) × HasWideNumber game leaves order (slice_index_or lines m no_line) w
+    (m : ℕ) × (m < length lines) × HasWideNumber game leaves order (slice_index_or lines m no_line)
+    w

@@ -14,12 +14,15 @@ use Rattle.zr_system.specs.Unknowns.{list_to, over_present}
 
 -- the multipliers cancel the slope
 abbrev pub pull_lines : GameOf → ℕ → ℕ → List Line
-pull_lines game i k = list_to (var_count game i) (λ v. ALine.Pull i k v false ∷ (ALine.Pull i k v true ∷ []))
+pull_lines game i k = list_to (var_count game i)
+    (λ v. ALine.Pull i k v false ∷ (ALine.Pull i k v true ∷ []))
 
--- of an exact leaf: multipliers are at least 0, they cancel the slope, and the value is at most what they give
+-- of an exact leaf: multipliers are at least 0, they cancel the slope, and the value is at most
+-- what they give
 abbrev pub dual_lines : GameOf → LeavesOf → ℕ → ℕ → List Line
 dual_lines game leaves i k =
-    over_present game leaves i k (λ s. ALine.Dual i k s false) ++ (pull_lines game i k ++ (ALine.Gain i k false ∷ []))
+    over_present game leaves i k (λ s. ALine.Dual i k s false) ++
+    (pull_lines game i k ++ (ALine.Gain i k false ∷ []))
 
 -- the slots hold
 abbrev pub slot_lines : GameOf → LeavesOf → ℕ → ℕ → List Line
@@ -27,11 +30,14 @@ slot_lines game leaves i k = over_present game leaves i k (λ s. ALine.Slot i k 
 
 abbrev pub leaf_lines : GameOf → LeavesOf → ℕ → ℕ → List Line
 leaf_lines game leaves i k =
-    slot_lines game leaves i k ++ (ALine.Weight i k false ∷ (if is_exact leaves i k then dual_lines game leaves i k else []))
+    slot_lines game leaves i k ++ (ALine.Weight i k false ∷
+    (if is_exact leaves i k then dual_lines game leaves i k else []))
 
 abbrev pub player_lines : GameOf → LeavesOf → ℕ → List Line
 player_lines game leaves i =
-    ALine.Weights i false ∷ (ALine.Weights i true ∷ (list_to (leaf_count leaves i) (λ k. leaf_lines game leaves i k) ++ list_to (length (named_at leaves i)) (λ n. ALine.Named i n ∷ [])))
+    ALine.Weights i false ∷ (ALine.Weights i true ∷
+    (list_to (leaf_count leaves i) (λ k. leaf_lines game leaves i k) ++ list_to
+    (length (named_at leaves i)) (λ n. ALine.Named i n ∷ [])))
 
 -- the rows where no choice is made
 abbrev pub base_lines : GameOf → LeavesOf → List Line
@@ -43,11 +49,13 @@ reach_lines leaves i k = if is_exact leaves i k then ALine.Gain i k true ∷ [] 
 
 abbrev pub off_lines : GameOf → ℕ → ℕ → List Line
 off_lines game i k =
-    ALine.Weight i k true ∷ list_to (var_count game i) (λ v. ALine.Share i k v false ∷ (ALine.Share i k v true ∷ []))
+    ALine.Weight i k true ∷ list_to (var_count game i)
+    (λ v. ALine.Share i k v false ∷ (ALine.Share i k v true ∷ []))
 
 -- the player's other leaves have no weight and no share
 abbrev pub other_lines : GameOf → LeavesOf → ℕ → ℕ → List Line
-other_lines game leaves i k = list_to (leaf_count leaves i) (λ l. if l == k then [] else off_lines game i l)
+other_lines game leaves i k = list_to (leaf_count leaves i)
+    (λ l. if l == k then [] else off_lines game i l)
 
 abbrev pub choice_lines : GameOf → LeavesOf → Choice → List Line
 choice_lines game leaves (AChoice.On i k) = ALine.Positive i k ∷ reach_lines leaves i k
@@ -72,22 +80,27 @@ weights_form leaves i = sum (leaf_count leaves i) (λ k. of (Weight i k))
 -- the slot's row at the leaf's share, less its right side times the weight
 abbrev pub slot_form : GameOf → LeavesOf → ℕ → ℕ → ℕ → Form
 slot_form game leaves i k s =
-    plus (sum (var_count game i) (λ v. times (slot_number game leaves i k s v) (of (Share i k v)))) (times (neg_ℤ (slot_right game leaves i k s)) (of (Weight i k)))
+    plus (sum (var_count game i) (λ v. times (slot_number game leaves i k s v) (of (Share i k v))))
+    (times (neg_ℤ (slot_right game leaves i k s)) (of (Weight i k)))
 
 -- what one unit of variable v costs player i, at the sums of the others' shares
 abbrev pub slope_form : GameOf → LeavesOf → ℕ → ℕ → Form
 slope_form game leaves i v =
-    plus (number (own_number game i v)) (sum (length game) (λ k. sum (var_count game k) (λ u. times (cross_number game i v k u) (sum (leaf_count leaves k) (λ l. of (Share k l u))))))
+    plus (number (own_number game i v)) (sum (length game)
+    (λ k. sum (var_count game k) (λ u. times (cross_number game i v k u)
+    (sum (leaf_count leaves k) (λ l. of (Share k l u))))))
 
 -- the sum of the multipliers' rows in variable v
 abbrev pub pull_form : GameOf → LeavesOf → ℕ → ℕ → ℕ → Form
 pull_form game leaves i k v =
-    sum (slot_count game leaves i k) (λ s. times (slot_number game leaves i k s v) (of (Dual i k s)))
+    sum (slot_count game leaves i k) (λ s. times (slot_number game leaves i k s v)
+    (of (Dual i k s)))
 
 -- the value and the sum of the multipliers' right sides
 abbrev pub gain_form : GameOf → LeavesOf → ℕ → ℕ → Form
 gain_form game leaves i k =
-    plus (of (Worth i)) (sum (slot_count game leaves i k) (λ s. times (slot_right game leaves i k s) (of (Dual i k s))))
+    plus (of (Worth i)) (sum (slot_count game leaves i k)
+    (λ s. times (slot_right game leaves i k s) (of (Dual i k s))))
 
 -- what the numbers cost along the slope
 abbrev pub along_form : GameOf → LeavesOf → ℕ → (ℕ → ℤ) → Form
@@ -105,12 +118,16 @@ nothing = NamedRay (record { num = []; den = pos 1 }) []
 abbrev pub row_of_line : GameOf → LeavesOf → Line → FormRow
 row_of_line game leaves (ALine.Weights i negated) =
     at_most_0 (turned negated (plus (weights_form leaves i) (minus (of One))))
-row_of_line game leaves (ALine.Slot i k s negated) = at_most_0 (turned negated (slot_form game leaves i k s))
-row_of_line game leaves (ALine.Weight i k negated) = at_most_0 (turned negated (minus (of (Weight i k))))
-row_of_line game leaves (ALine.Dual i k s negated) = at_most_0 (turned negated (minus (of (Dual i k s))))
+row_of_line game leaves (ALine.Slot i k s negated) = at_most_0
+    (turned negated (slot_form game leaves i k s))
+row_of_line game leaves (ALine.Weight i k negated) = at_most_0
+    (turned negated (minus (of (Weight i k))))
+row_of_line game leaves (ALine.Dual i k s negated) = at_most_0
+    (turned negated (minus (of (Dual i k s))))
 row_of_line game leaves (ALine.Pull i k v negated) =
     at_most_0 (turned negated (plus (slope_form game leaves i v) (pull_form game leaves i k v)))
-row_of_line game leaves (ALine.Gain i k negated) = at_most_0 (turned negated (gain_form game leaves i k))
+row_of_line game leaves (ALine.Gain i k negated) = at_most_0
+    (turned negated (gain_form game leaves i k))
 row_of_line game leaves (ALine.Named i n) =
     at_most_0 (named_form game leaves i (slice_index_or (named_at leaves i) n nothing))
 row_of_line game leaves (ALine.Positive i k) = below_0 (minus (of (Weight i k)))

@@ -1,4 +1,5 @@
--- What the system is over, as content: each player's leaves with their slots, and its named points and rays.
+-- What the system is over, as content: each player's leaves with their slots, and its named points
+-- and rays.
 use Rattle.std.specs.Prelude.{ℕ, ◌==◌, ◌&&◌, ℤ, pos, Bool, false, Option, Some, None, if◌then◌else◌, List, [], ◌∷◌, ◌++◌, map, length, slice_index_or}
 use Rattle.std.specs.Option.{is_some, option_map_or}
 use Rattle.zr_base.specs.Terms.{coef_at}
@@ -36,7 +37,15 @@ leaves_of leaves = record {
 }
 
 abbrev pub no_player : PlayerOf
-no_player = record { name = []; vars = []; rows = []; pairs = []; cost = []; cross = []; others = [] }
+no_player = record {
+  name = [];
+  vars = [];
+  rows = [];
+  pairs = [];
+  cost = [];
+  cross = [];
+  others = [];
+}
 
 abbrev pub player_at : GameOf → ℕ → PlayerOf
 player_at game i = slice_index_or game i no_player
@@ -50,7 +59,10 @@ abbrev pub leaf_count : LeavesOf → ℕ → ℕ
 leaf_count leaves i = length (slice_index_or leaves.regions i [])
 
 abbrev pub no_region : RegionOf
-no_region = record { leaf = record { low = λ v. None; high = λ v. None; side = λ p. Undecided }; exact = false }
+no_region = record {
+  leaf = record { low = λ v. None; high = λ v. None; side = λ p. Undecided };
+  exact = false;
+}
 
 abbrev pub region_at : LeavesOf → ℕ → ℕ → RegionOf
 region_at leaves i k = slice_index_or (slice_index_or leaves.regions i []) k no_region
@@ -64,7 +76,8 @@ named_at leaves i = slice_index_or leaves.named i []
 -- the slots of leaf k of player i, and after them the player's cuts
 abbrev pub all_slots : GameOf → LeavesOf → ℕ → ℕ → List (Option Bound)
 all_slots game leaves i k =
-    slots (player_at game i) (region_at leaves i k).leaf ++ map (λ cut. Some cut) (slice_index_or leaves.cuts i [])
+    slots (player_at game i) (region_at leaves i k).leaf ++ map (λ cut. Some cut)
+    (slice_index_or leaves.cuts i [])
 
 abbrev pub slot_count : GameOf → LeavesOf → ℕ → ℕ → ℕ
 slot_count game leaves i k = length (all_slots game leaves i k)
@@ -74,10 +87,12 @@ is_present game leaves i k s = is_some (slot_of (all_slots game leaves i k) s)
 
 -- the slot's number at variable v, and its right side; an absent slot has zeros
 abbrev pub slot_number : GameOf → LeavesOf → ℕ → ℕ → ℕ → ℕ → ℤ
-slot_number game leaves i k s v = option_map_or (λ bound. bound.coef v) (slot_of (all_slots game leaves i k) s) (pos 0)
+slot_number game leaves i k s v = option_map_or (λ bound. bound.coef v)
+    (slot_of (all_slots game leaves i k) s) (pos 0)
 
 abbrev pub slot_right : GameOf → LeavesOf → ℕ → ℕ → ℕ → ℤ
-slot_right game leaves i k s = option_map_or (λ bound. bound.le) (slot_of (all_slots game leaves i k) s) (pos 0)
+slot_right game leaves i k s = option_map_or (λ bound. bound.le)
+    (slot_of (all_slots game leaves i k) s) (pos 0)
 
 -- what variable v costs player i by itself
 abbrev pub own_number : GameOf → ℕ → ℕ → ℤ
@@ -86,7 +101,8 @@ own_number game i v = coef_at (player_at game i).cost v
 -- the number of the cross term of these variables, which is 0 where there is none
 abbrev pub cross_coef : List CrossTerm → ℕ → ℕ → ℕ → ℤ
 cross_coef [] v k u = pos 0
-cross_coef (t ∷ ts) v k u = if (t.own == v) && ((t.player == k) && (t.var == u)) then t.coef else cross_coef ts v k u
+cross_coef (t ∷ ts) v k u = if (t.own == v) && ((t.player == k) && (t.var == u)) then t.coef else
+    cross_coef ts v k u
 
 -- what variable v of player i costs it besides, times variable u of player k
 abbrev pub cross_number : GameOf → ℕ → ℕ → ℕ → ℕ → ℤ

@@ -19,7 +19,8 @@ listed j z = if int_eq z (pos 0) then [] else (j, z) ∷ []
 -- the form's numbers at the unknowns, by column from j on, as far as they aren't 0
 abbrev pub terms_from : ℕ → List Unknown → Form → Terms
 terms_from j [] form = []
-terms_from j (u ∷ us) form = if int_eq (number_at form u) (pos 0) then terms_from (j + 1) us form else (j, number_at form u) ∷ terms_from (j + 1) us form
+terms_from j (u ∷ us) form = if int_eq (number_at form u) (pos 0) then terms_from (j + 1) us form
+    else (j, number_at form u) ∷ terms_from (j + 1) us form
 
 -- the row over the columns, its number by itself on the right side
 abbrev pub ineq_over : List Unknown → FormRow → IneqOf
@@ -32,7 +33,8 @@ ineq_over order row = record {
 -- the rows of the system under a path of choices
 abbrev pub system_rows : GameOf → LeavesOf → List Choice → List IneqOf
 system_rows game leaves path =
-    map (λ line. ineq_over (columns game leaves) (row_of_line game leaves line)) (all_lines game leaves path)
+    map (λ line. ineq_over (columns game leaves) (row_of_line game leaves line))
+    (all_lines game leaves path)
 
 -- rows times columns, where no choice is made
 abbrev pub cell_count : GameOf → LeavesOf → ℕ

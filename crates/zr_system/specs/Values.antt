@@ -19,8 +19,10 @@ weights_value i (Dual j l s) = pos 0
 abbrev pub slot_value : GameOf → LeavesOf → ℕ → ℕ → ℕ → Unknown → ℤ
 slot_value game leaves i k s One = pos 0
 slot_value game leaves i k s (Worth j) = pos 0
-slot_value game leaves i k s (Share j l v) = if (j == i) && (l == k) then slot_number game leaves i k s v else pos 0
-slot_value game leaves i k s (Weight j l) = if (j == i) && (l == k) then neg_ℤ (slot_right game leaves i k s) else pos 0
+slot_value game leaves i k s (Share j l v) = if (j == i) && (l == k) then slot_number game leaves i
+    k s v else pos 0
+slot_value game leaves i k s (Weight j l) = if (j == i) && (l == k) then neg_ℤ
+    (slot_right game leaves i k s) else pos 0
 slot_value game leaves i k s (Dual j l t) = pos 0
 
 abbrev pub slope_value : GameOf → ℕ → ℕ → Unknown → ℤ
@@ -35,14 +37,16 @@ pull_value game leaves i k v One = pos 0
 pull_value game leaves i k v (Worth j) = pos 0
 pull_value game leaves i k v (Share j l w) = pos 0
 pull_value game leaves i k v (Weight j l) = pos 0
-pull_value game leaves i k v (Dual j l s) = if (j == i) && (l == k) then slot_number game leaves i k s v else pos 0
+pull_value game leaves i k v (Dual j l s) = if (j == i) && (l == k) then slot_number game leaves i
+    k s v else pos 0
 
 abbrev pub gain_value : GameOf → LeavesOf → ℕ → ℕ → Unknown → ℤ
 gain_value game leaves i k One = pos 0
 gain_value game leaves i k (Worth j) = if j == i then pos 1 else pos 0
 gain_value game leaves i k (Share j l v) = pos 0
 gain_value game leaves i k (Weight j l) = pos 0
-gain_value game leaves i k (Dual j l s) = if (j == i) && (l == k) then slot_right game leaves i k s else pos 0
+gain_value game leaves i k (Dual j l s) = if (j == i) && (l == k) then slot_right game leaves i k s
+    else pos 0
 
 -- the products of the slope's numbers with the item's, of the first variables
 abbrev pub along_products : GameOf → ℕ → NamedOf → Unknown → ℕ → List (ℤ × ℤ)

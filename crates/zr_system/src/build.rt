@@ -51,10 +51,14 @@ fn number_of(
     requires line { LineExists (game_of game.now) (leaves_of leaves.now) line }
     requires order { All (IsUnknown (game_of game.now) (leaves_of leaves.now)) order.now }
     requires column { j < length order.now }
-    ensures exact { IfOk result (λ a. a ≡ number_at (row_of_line (game_of game.now) (leaves_of leaves.now) line).left (slice_index_or order.now j Unknown.One)) }
+    ensures exact { IfOk result (λ a. a ≡ number_at
+        (row_of_line (game_of game.now) (leaves_of leaves.now) line).left
+        (slice_index_or order.now j Unknown.One)) }
     ensures narrow { IfOk result IsNarrow }
-    ensures wide { IfErr result (IsWideAt (game_of game.now) (leaves_of leaves.now) line (slice_index_or order.now j Unknown.One)) }
-    ensures wide_ends { (w : AWide) → IsWideAt (game_of game.now) (leaves_of leaves.now) line (slice_index_or order.now j Unknown.One) w → IsErr result }
+    ensures wide { IfErr result (IsWideAt (game_of game.now) (leaves_of leaves.now) line
+        (slice_index_or order.now j Unknown.One)) }
+    ensures wide_ends { (w : AWide) → IsWideAt (game_of game.now) (leaves_of leaves.now) line
+        (slice_index_or order.now j Unknown.One) w → IsErr result }
 {
     number(game, leaves, line, order[j as usize])
 }
@@ -71,10 +75,15 @@ fn terms(
     requires line { LineExists (game_of game.now) (leaves_of leaves.now) line }
     requires order { All (IsUnknown (game_of game.now) (leaves_of leaves.now)) order.now }
     requires few { length order.now < 4294967296 }
-    ensures terms { IfOk result (λ list. list.items ≡ terms_from 0 order.now (row_of_line (game_of game.now) (leaves_of leaves.now) line).left) }
+    ensures terms { IfOk result (λ list. list.items ≡ terms_from 0 order.now
+        (row_of_line (game_of game.now) (leaves_of leaves.now) line).left) }
     ensures ascend { IfOk result (λ list. Ascends 0 (length order.now) list.items) }
-    ensures wide { IfErr result (IsWideBy (λ w. (j : ℕ) × (j < length order.now) × IsWideAt (game_of game.now) (leaves_of leaves.now) line (slice_index_or order.now j Unknown.One) w)) }
-    ensures wide_ends { (j : ℕ) (w : AWide) → j < length order.now → IsWideAt (game_of game.now) (leaves_of leaves.now) line (slice_index_or order.now j Unknown.One) w → IsErr result }
+    ensures wide { IfErr result (IsWideBy (λ w. (j : ℕ) × (j < length order.now)
+        × IsWideAt (game_of game.now) (leaves_of leaves.now) line
+        (slice_index_or order.now j Unknown.One) w)) }
+    ensures wide_ends { (j : ℕ) (w : AWide) → j < length order.now
+        → IsWideAt (game_of game.now) (leaves_of leaves.now) line
+        (slice_index_or order.now j Unknown.One) w → IsErr result }
 {
     let mut list = Vec::new(alloc);
     for j in 0..order.len() as u32 {
@@ -102,10 +111,13 @@ fn ineq(
     requires line { LineExists (game_of game.now) (leaves_of leaves.now) line }
     requires order { All (IsUnknown (game_of game.now) (leaves_of leaves.now)) order.now }
     requires few { length order.now < 4294967296 }
-    ensures row { IfOk result (λ row. ineq_of row ≡ ineq_over order.now (row_of_line (game_of game.now) (leaves_of leaves.now) line)) }
+    ensures row { IfOk result (λ row. ineq_of row ≡ ineq_over order.now
+        (row_of_line (game_of game.now) (leaves_of leaves.now) line)) }
     ensures form { IfOk result (λ row. IsIneq (length order.now) (ineq_of row)) }
-    ensures wide { IfErr result (IsWideBy (HasWideNumber (game_of game.now) (leaves_of leaves.now) order.now line)) }
-    ensures wide_ends { (w : AWide) → HasWideNumber (game_of game.now) (leaves_of leaves.now) order.now line w → IsErr result }
+    ensures wide { IfErr result (IsWideBy (HasWideNumber (game_of game.now) (leaves_of leaves.now)
+        order.now line)) }
+    ensures wide_ends { (w : AWide) → HasWideNumber (game_of game.now) (leaves_of leaves.now)
+        order.now line w → IsErr result }
 {
     let coef = match terms(alloc, game, leaves, order, line) {
         Ok(coef) => coef,
@@ -124,7 +136,8 @@ fn ineq(
 /// Appends a row.
 #[tactic(auto, using(crate::proofs::Existence::map_more))]
 fn push_row(list: &mut Vec<Ineq>, row: Ineq) -> Result<(), NoMemory>
-    ensures { OnOk result (map ineq_of list.new.items ≡ map ineq_of list.old.items ++ (ineq_of row ∷ [])) }
+    ensures { OnOk result (map ineq_of list.new.items ≡ map ineq_of list.old.items ++
+        (ineq_of row ∷ [])) }
 {
     match list.push(row) {
         Ok(()) => Ok(()),
@@ -144,10 +157,14 @@ fn rows_over(
     requires lines { All (LineExists (game_of game.now) (leaves_of leaves.now)) lines.now }
     requires order { All (IsUnknown (game_of game.now) (leaves_of leaves.now)) order.now }
     requires few { length order.now < 4294967296 }
-    ensures rows { IfOk result (λ list. map ineq_of list.items ≡ map (λ line. ineq_over order.now (row_of_line (game_of game.now) (leaves_of leaves.now) line)) lines.now) }
+    ensures rows { IfOk result (λ list. map ineq_of list.items ≡ map
+        (λ line. ineq_over order.now (row_of_line (game_of game.now) (leaves_of leaves.now) line))
+        lines.now) }
     ensures form { IfOk result (λ list. All (IsIneq (length order.now)) (map ineq_of list.items)) }
-    ensures wide { IfErr result (IsWideBy (HasWideIn (game_of game.now) (leaves_of leaves.now) order.now lines.now)) }
-    ensures wide_ends { (w : AWide) → HasWideIn (game_of game.now) (leaves_of leaves.now) order.now lines.now w → IsErr result }
+    ensures wide { IfErr result (IsWideBy (HasWideIn (game_of game.now) (leaves_of leaves.now)
+        order.now lines.now)) }
+    ensures wide_ends { (w : AWide) → HasWideIn (game_of game.now) (leaves_of leaves.now) order.now
+        lines.now w → IsErr result }
 {
     let mut list = Vec::new(alloc);
     for line in lines {
@@ -165,7 +182,8 @@ fn rows_over(
 
 /// The system of the game over the leaves, under a path of choices.
 ///
-/// `Wide` where a step of a coefficient's sum is too wide. The rows are the same for both kinds: what
+/// `Wide` where a step of a coefficient's sum is too wide. The rows are the same for both kinds:
+/// what
 /// the kind decides is which choices are made.
 pub fn rows(
     alloc: Global,
@@ -177,11 +195,15 @@ pub fn rows(
     requires leaves { AreLeaves (game_of game.now) leaves.now }
     requires choices { All (ChoiceExists (game_of game.now) (leaves_of leaves.now)) choices.now }
     requires few_columns { length (columns (game_of game.now) (leaves_of leaves.now)) < 4294967296 }
-    ensures columns { IfOk result (λ sys. sys.columns ≡ length (columns (game_of game.now) (leaves_of leaves.now))) }
-    ensures rows { IfOk result (λ sys. rows_of sys ≡ system_rows (game_of game.now) (leaves_of leaves.now) choices.now) }
+    ensures columns { IfOk result (λ sys. sys.columns ≡ length
+        (columns (game_of game.now) (leaves_of leaves.now))) }
+    ensures rows { IfOk result (λ sys. rows_of sys ≡ system_rows (game_of game.now)
+        (leaves_of leaves.now) choices.now) }
     ensures form { IfOk result (λ sys. All (IsIneq sys.columns) (rows_of sys)) }
-    ensures wide { IfErr result (IsWideBy (HasWideCoefficient (game_of game.now) (leaves_of leaves.now))) }
-    ensures wide_ends { (w : AWide) → HasWideCoefficient (game_of game.now) (leaves_of leaves.now) w → IsErr result }
+    ensures wide { IfErr result (IsWideBy (HasWideCoefficient (game_of game.now)
+        (leaves_of leaves.now))) }
+    ensures wide_ends { (w : AWide) → HasWideCoefficient (game_of game.now) (leaves_of leaves.now)
+        w → IsErr result }
 {
     let order = match unknowns(alloc, game, leaves) {
         Ok(order) => order,

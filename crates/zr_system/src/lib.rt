@@ -3,6 +3,7 @@
 
 mod build;
 mod counts;
+mod laws;
 mod leaves;
 mod line;
 mod number;
@@ -13,6 +14,7 @@ mod unknown;
 
 pub use build::rows;
 pub use counts::{is_exact, leaf_count, named_count, player_count, var_count};
+pub use laws::law_of_worked_counts;
 pub use leaves::{Leaves, Region, SystemError};
 pub use present::{is_present, slot_count};
 pub use unknown::{Unknown, unknowns};

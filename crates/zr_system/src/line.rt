@@ -13,7 +13,8 @@ use crate::present::{is_present, slot_count};
 use std::alloc::{AllocError, Global};
 use zr_game::{Choice, Game};
 
-/// A row of the system, by what it says. `negated` tells of the second of two rows that say together
+/// A row of the system, by what it says. `negated` tells of the second of two rows that say
+/// together
 /// that a form is zero.
 #[derive(Clone, Copy, Debug, PartialEq, Eq)]
 pub(crate) enum Line {
@@ -55,7 +56,8 @@ pub(crate) enum Line {
         leaf: usize,
         negated: bool,
     },
-    /// The player's value is at most what a named point costs, or a named ray doesn't lower the cost.
+    /// The player's value is at most what a named point costs, or a named ray doesn't lower the
+    /// cost.
     Named {
         player: usize,
         item: usize,
@@ -88,7 +90,8 @@ pub(crate) fn lines(
 ) -> Result<Vec<Line>, AllocError>
     requires leaves { AreLeaves (game_of game.now) leaves.now }
     requires path { All (ChoiceExists (game_of game.now) (leaves_of leaves.now)) path.now }
-    ensures { IfOk result (λ list. list.items ≡ all_lines (game_of game.now) (leaves_of leaves.now) path.now) }
+    ensures { IfOk result (λ list. list.items ≡ all_lines (game_of game.now) (leaves_of leaves.now)
+        path.now) }
 {
     let mut list = Vec::new(alloc);
     push_base(&mut list, game, leaves)?;
@@ -105,7 +108,8 @@ fn push_path(
 ) -> Result<(), AllocError>
     requires leaves { AreLeaves (game_of game.now) leaves.now }
     requires path { All (ChoiceExists (game_of game.now) (leaves_of leaves.now)) path.now }
-    ensures { OnOk result (list.new.items ≡ list.old.items ++ path_lines (game_of game.now) (leaves_of leaves.now) path.now) }
+    ensures { OnOk result (list.new.items ≡ list.old.items ++ path_lines (game_of game.now)
+        (leaves_of leaves.now) path.now) }
 {
     for choice in path {
         push_choice(list, game, leaves, *choice)?;
@@ -116,7 +120,8 @@ fn push_path(
 /// Appends the rows where no choice is made.
 fn push_base(list: &mut Vec<Line>, game: &Game, leaves: &Leaves) -> Result<(), AllocError>
     requires { AreLeaves (game_of game.now) leaves.now }
-    ensures { OnOk result (list.new.items ≡ list.old.items ++ base_lines (game_of game.now) (leaves_of leaves.now)) }
+    ensures { OnOk result (list.new.items ≡ list.old.items ++ base_lines (game_of game.now)
+        (leaves_of leaves.now)) }
 {
     for i in 0..player_count(game) {
         push_player(list, game, leaves, i)?;
@@ -133,7 +138,8 @@ fn push_player(
 ) -> Result<(), AllocError>
     requires leaves { AreLeaves (game_of game.now) leaves.now }
     requires player { i < length (game_of game.now) }
-    ensures { OnOk result (list.new.items ≡ list.old.items ++ player_lines (game_of game.now) (leaves_of leaves.now) i) }
+    ensures { OnOk result (list.new.items ≡ list.old.items ++ player_lines (game_of game.now)
+        (leaves_of leaves.now) i) }
 {
     list.push(Line::Weights {
         player: i,
@@ -156,7 +162,9 @@ fn push_leaves(
 ) -> Result<(), AllocError>
     requires leaves { AreLeaves (game_of game.now) leaves.now }
     requires player { i < length (game_of game.now) }
-    ensures { OnOk result (list.new.items ≡ list.old.items ++ list_to (content.leaf_count (leaves_of leaves.now) i) (λ k. leaf_lines (game_of game.now) (leaves_of leaves.now) i k)) }
+    ensures { OnOk result (list.new.items ≡ list.old.items ++ list_to
+        (content.leaf_count (leaves_of leaves.now) i)
+        (λ k. leaf_lines (game_of game.now) (leaves_of leaves.now) i k)) }
 {
     for k in 0..leaf_count(game, leaves, i) {
         push_leaf(list, game, leaves, i, k)?;
@@ -173,7 +181,8 @@ fn push_named(
 ) -> Result<(), AllocError>
     requires leaves { AreLeaves (game_of game.now) leaves.now }
     requires player { i < length (game_of game.now) }
-    ensures { OnOk result (list.new.items ≡ list.old.items ++ list_to (length (content.named_at (leaves_of leaves.now) i)) (λ n. Line.Named i n ∷ [])) }
+    ensures { OnOk result (list.new.items ≡ list.old.items ++ list_to
+        (length (content.named_at (leaves_of leaves.now) i)) (λ n. Line.Named i n ∷ [])) }
 {
     for n in 0..named_count(game, leaves, i) {
         list.push(Line::Named { player: i, item: n })?;
@@ -191,7 +200,8 @@ fn push_leaf(
 ) -> Result<(), AllocError>
     requires leaves { AreLeaves (game_of game.now) leaves.now }
     requires leaf { LeafExists (game_of game.now) (leaves_of leaves.now) i k }
-    ensures { OnOk result (list.new.items ≡ list.old.items ++ leaf_lines (game_of game.now) (leaves_of leaves.now) i k) }
+    ensures { OnOk result (list.new.items ≡ list.old.items ++ leaf_lines (game_of game.now)
+        (leaves_of leaves.now) i k) }
 {
     push_slots(list, game, leaves, i, k)?;
     list.push(Line::Weight {
@@ -215,7 +225,8 @@ fn push_slots(
 ) -> Result<(), AllocError>
     requires leaves { AreLeaves (game_of game.now) leaves.now }
     requires leaf { LeafExists (game_of game.now) (leaves_of leaves.now) i k }
-    ensures { OnOk result (list.new.items ≡ list.old.items ++ slot_lines (game_of game.now) (leaves_of leaves.now) i k) }
+    ensures { OnOk result (list.new.items ≡ list.old.items ++ slot_lines (game_of game.now)
+        (leaves_of leaves.now) i k) }
 {
     for s in 0..slot_count(game, leaves, i, k) {
         push_slot(list, game, leaves, i, k, s)?;
@@ -234,7 +245,9 @@ fn push_slot(
 ) -> Result<(), AllocError>
     requires leaves { AreLeaves (game_of game.now) leaves.now }
     requires leaf { LeafExists (game_of game.now) (leaves_of leaves.now) i k }
-    ensures { OnOk result (list.new.items ≡ list.old.items ++ (if content.is_present (game_of game.now) (leaves_of leaves.now) i k s then Line.Slot i k s false ∷ [] else [])) }
+    ensures { OnOk result (list.new.items ≡ list.old.items ++
+        (if content.is_present (game_of game.now) (leaves_of leaves.now) i k s then Line.Slot i k s
+        false ∷ [] else [])) }
 {
     if is_present(game, leaves, i, k, s) {
         list.push(Line::Slot {
@@ -257,7 +270,8 @@ fn push_dual_rows(
 ) -> Result<(), AllocError>
     requires leaves { AreLeaves (game_of game.now) leaves.now }
     requires leaf { LeafExists (game_of game.now) (leaves_of leaves.now) i k }
-    ensures { OnOk result (list.new.items ≡ list.old.items ++ dual_lines (game_of game.now) (leaves_of leaves.now) i k) }
+    ensures { OnOk result (list.new.items ≡ list.old.items ++ dual_lines (game_of game.now)
+        (leaves_of leaves.now) i k) }
 {
     for s in 0..slot_count(game, leaves, i, k) {
         push_sign(list, game, leaves, i, k, s)?;
@@ -282,7 +296,9 @@ fn push_sign(
 ) -> Result<(), AllocError>
     requires leaves { AreLeaves (game_of game.now) leaves.now }
     requires leaf { LeafExists (game_of game.now) (leaves_of leaves.now) i k }
-    ensures { OnOk result (list.new.items ≡ list.old.items ++ (if content.is_present (game_of game.now) (leaves_of leaves.now) i k s then Line.Dual i k s false ∷ [] else [])) }
+    ensures { OnOk result (list.new.items ≡ list.old.items ++
+        (if content.is_present (game_of game.now) (leaves_of leaves.now) i k s then Line.Dual i k s
+        false ∷ [] else [])) }
 {
     if is_present(game, leaves, i, k, s) {
         list.push(Line::Dual {
@@ -326,7 +342,8 @@ fn push_choice(
 ) -> Result<(), AllocError>
     requires leaves { AreLeaves (game_of game.now) leaves.now }
     requires choice { ChoiceExists (game_of game.now) (leaves_of leaves.now) choice }
-    ensures { OnOk result (list.new.items ≡ list.old.items ++ choice_lines (game_of game.now) (leaves_of leaves.now) choice) }
+    ensures { OnOk result (list.new.items ≡ list.old.items ++ choice_lines (game_of game.now)
+        (leaves_of leaves.now) choice) }
 {
     match choice {
         Choice::On { player, leaf } => {
@@ -376,7 +393,8 @@ fn push_reach(
 ) -> Result<(), AllocError>
     requires leaves { AreLeaves (game_of game.now) leaves.now }
     requires leaf { LeafExists (game_of game.now) (leaves_of leaves.now) i k }
-    ensures { OnOk result (list.new.items ≡ list.old.items ++ reach_lines (leaves_of leaves.now) i k) }
+    ensures { OnOk result (list.new.items ≡ list.old.items ++ reach_lines (leaves_of leaves.now) i
+        k) }
 {
     if is_exact(game, leaves, i, k) {
         list.push(Line::Gain {
@@ -425,7 +443,8 @@ fn push_others(
 ) -> Result<(), AllocError>
     requires leaves { AreLeaves (game_of game.now) leaves.now }
     requires leaf { LeafExists (game_of game.now) (leaves_of leaves.now) i k }
-    ensures { OnOk result (list.new.items ≡ list.old.items ++ other_lines (game_of game.now) (leaves_of leaves.now) i k) }
+    ensures { OnOk result (list.new.items ≡ list.old.items ++ other_lines (game_of game.now)
+        (leaves_of leaves.now) i k) }
 {
     for l in 0..leaf_count(game, leaves, i) {
         push_other(list, game, i, l, k)?;
@@ -442,7 +461,8 @@ fn push_other(
     k: usize,
 ) -> Result<(), AllocError>
     requires player { i < length (game_of game.now) }
-    ensures { OnOk result (list.new.items ≡ list.old.items ++ (if l == k then [] else off_lines (game_of game.now) i l)) }
+    ensures { OnOk result (list.new.items ≡ list.old.items ++
+        (if l == k then [] else off_lines (game_of game.now) i l)) }
 {
     if l == k {
         return Ok(());

@@ -140,7 +140,11 @@ fn along_step(
     requires player { i < length (game_of game.now) }
     requires item { IsNamedForm vars (named_of item.now) }
     requires var { v < vars }
-    ensures step { result ≡ sum_step sum (slope_value (game_of game.now) i v u, direction (named_of item.now) v) }
+    ensures step { result ≡ sum_step sum (
+      slope_value (game_of game.now) i v u,
+      direction
+          (named_of item.now) v,
+    ) }
     ensures narrow { IfOk result IsNarrow }
 {
     add_product(
@@ -154,7 +158,8 @@ fn along_step(
 fn along_number(game: &Game, i: usize, vars: usize, item: &Named, u: Unknown) -> Result<i128, Wide>
     requires player { i < length (game_of game.now) }
     requires item { IsNamedForm vars (named_of item.now) }
-    ensures steps { result ≡ sum_steps (pos 0) (along_products (game_of game.now) i (named_of item.now) u vars) }
+    ensures steps { result ≡ sum_steps (pos 0)
+        (along_products (game_of game.now) i (named_of item.now) u vars) }
     ensures narrow { IfOk result IsNarrow }
 {
     let mut sum = 0;
@@ -172,10 +177,16 @@ fn named_number(game: &Game, i: usize, vars: usize, item: &Named, u: Unknown) ->
     requires player { i < length (game_of game.now) }
     requires vars { vars ≡ content.var_count (game_of game.now) i }
     requires item { IsNamedForm vars (named_of item.now) }
-    ensures exact { (leaves : LeavesOf) → IsUnknown (game_of game.now) leaves u → IfOk result (λ a. a ≡ number_at (named_form (game_of game.now) leaves i (named_of item.now)) u) }
+    ensures exact { (leaves : LeavesOf) → IsUnknown (game_of game.now) leaves u
+        → IfOk result (λ a. a ≡ number_at (named_form (game_of game.now) leaves i
+        (named_of item.now)) u) }
     ensures narrow { IfOk result IsNarrow }
-    ensures wide { (leaves : LeavesOf) → IsUnknown (game_of game.now) leaves u → IfErr result (λ w. sum_steps (pos 0) (slope_products (game_of game.now) leaves i (named_of item.now) u) ≡ Err w) }
-    ensures wide_ends { (leaves : LeavesOf) (w : AWide) → IsUnknown (game_of game.now) leaves u → sum_steps (pos 0) (slope_products (game_of game.now) leaves i (named_of item.now) u) ≡ Err w → IsErr result }
+    ensures wide { (leaves : LeavesOf) → IsUnknown (game_of game.now) leaves u
+        → IfErr result (λ w. sum_steps (pos 0) (slope_products (game_of game.now) leaves i
+        (named_of item.now) u) ≡ Err w) }
+    ensures wide_ends { (leaves : LeavesOf) (w : AWide) → IsUnknown (game_of game.now) leaves u
+        → sum_steps (pos 0) (slope_products (game_of game.now) leaves i (named_of item.now) u) ≡
+        Err w → IsErr result }
 {
     match along_number(game, i, vars, item, u) {
         Err(wide) => Err(wide),
@@ -203,10 +214,12 @@ pub(crate) fn number(game: &Game, leaves: &Leaves, line: Line, u: Unknown) -> Re
     requires leaves { AreLeaves (game_of game.now) leaves.now }
     requires line { LineExists (game_of game.now) (leaves_of leaves.now) line }
     requires unknown { IsUnknown (game_of game.now) (leaves_of leaves.now) u }
-    ensures exact { IfOk result (λ a. a ≡ number_at (row_of_line (game_of game.now) (leaves_of leaves.now) line).left u) }
+    ensures exact { IfOk result (λ a. a ≡ number_at
+        (row_of_line (game_of game.now) (leaves_of leaves.now) line).left u) }
     ensures narrow { IfOk result IsNarrow }
     ensures wide { IfErr result (IsWideAt (game_of game.now) (leaves_of leaves.now) line u) }
-    ensures wide_ends { (w : AWide) → IsWideAt (game_of game.now) (leaves_of leaves.now) line u w → IsErr result }
+    ensures wide_ends { (w : AWide) → IsWideAt (game_of game.now) (leaves_of leaves.now) line u w
+        → IsErr result }
 {
     match line {
         Line::Named { player, item } => { named_at(game, leaves, player, item, u) }
@@ -219,10 +232,13 @@ fn named_at(game: &Game, leaves: &Leaves, i: usize, n: usize, u: Unknown) -> Res
     requires leaves { AreLeaves (game_of game.now) leaves.now }
     requires line { LineExists (game_of game.now) (leaves_of leaves.now) (Line.Named i n) }
     requires unknown { IsUnknown (game_of game.now) (leaves_of leaves.now) u }
-    ensures exact { IfOk result (λ a. a ≡ number_at (row_of_line (game_of game.now) (leaves_of leaves.now) (Line.Named i n)).left u) }
+    ensures exact { IfOk result (λ a. a ≡ number_at
+        (row_of_line (game_of game.now) (leaves_of leaves.now) (Line.Named i n)).left u) }
     ensures narrow { IfOk result IsNarrow }
-    ensures wide { IfErr result (IsWideAt (game_of game.now) (leaves_of leaves.now) (Line.Named i n) u) }
-    ensures wide_ends { (w : AWide) → IsWideAt (game_of game.now) (leaves_of leaves.now) (Line.Named i n) u w → IsErr result }
+    ensures wide { IfErr result (IsWideAt (game_of game.now) (leaves_of leaves.now)
+        (Line.Named i n) u) }
+    ensures wide_ends { (w : AWide) → IsWideAt (game_of game.now) (leaves_of leaves.now)
+        (Line.Named i n) u w → IsErr result }
 {
     named_number(game, i, game.players[i].vars.len(), &leaves.named[i][n], u)
 }
@@ -233,7 +249,8 @@ fn plain_number(game: &Game, leaves: &Leaves, line: Line, u: Unknown) -> i128
     requires line { LineExists (game_of game.now) (leaves_of leaves.now) line }
     requires unknown { IsUnknown (game_of game.now) (leaves_of leaves.now) u }
     requires plain { IsPlain line }
-    ensures value { result ≡ number_at (row_of_line (game_of game.now) (leaves_of leaves.now) line).left u }
+    ensures value { result ≡ number_at (row_of_line (game_of game.now) (leaves_of leaves.now)
+        line).left u }
     ensures narrow { IsNarrow result }
 {
     match line {
@@ -292,7 +309,8 @@ fn pull_row_number(game: &Game, leaves: &Leaves, i: usize, k: usize, v: usize, u
     requires leaves { AreLeaves (game_of game.now) leaves.now }
     requires leaf { LeafExists (game_of game.now) (leaves_of leaves.now) i k }
     requires var { v < content.var_count (game_of game.now) i }
-    ensures value { result ≡ slope_value (game_of game.now) i v u +ℤ pull_value (game_of game.now) (leaves_of leaves.now) i k v u }
+    ensures value { result ≡ slope_value (game_of game.now) i v u +ℤ pull_value (game_of game.now)
+        (leaves_of leaves.now) i k v u }
     ensures narrow { IsNarrow result }
 {
     match u {

@@ -96,7 +96,8 @@ pub(crate) fn slot_number(
     requires leaves { AreLeaves (game_of game.now) leaves.now }
     requires leaf { LeafExists (game_of game.now) (leaves_of leaves.now) i k }
     requires var { v < content.var_count (game_of game.now) i }
-    ensures value { result ≡ content.slot_number (game_of game.now) (leaves_of leaves.now) i k slot v }
+    ensures value { result ≡ content.slot_number (game_of game.now) (leaves_of leaves.now) i k slot
+        v }
     ensures narrow { IsNarrow result }
 {
     match slot_at(game, leaves, i, k, slot) {

@@ -35,7 +35,8 @@ pub(crate) struct SlotRow<'a> {
 pub(crate) fn slot_row<'a>(player: &'a Player, leaf: &Leaf, slot: usize) -> Option<SlotRow<'a>>
     requires forms { HasForms (player_of player.now) }
     requires places { HasPlaces (player_of player.now) leaf.now }
-    ensures row { option_map slot_bound result ≡ slot_of (slots (player_of player.now) (leaf_of leaf.now)) slot }
+    ensures row { option_map slot_bound result ≡ slot_of
+        (slots (player_of player.now) (leaf_of leaf.now)) slot }
     ensures form { IfSome result (λ row. IsLeft (length (player_of player.now).vars) row.left) }
     ensures narrow { IfSome result (λ row. IsNarrow row.le) }
 {
@@ -107,8 +108,10 @@ fn high_row<'a>(var: usize, high: Option<i64>) -> Option<SlotRow<'a>>
 
 /// `-coef * x <= add`, or where `second` the row of the pair's side, if it is decided.
 fn pair_row(pair: &Pair, second: bool, side: Side) -> Option<SlotRow<'_>>
-    ensures row { option_map slot_bound result ≡ (if second then side_slot (pair_of pair.now) side else pair_slot (pair_of pair.now)) }
-    ensures form { (columns : ℕ) → IsPairForm columns (pair_of pair.now) → IfSome result (λ row. IsLeft columns row.left) }
+    ensures row { option_map slot_bound result ≡ (if second then side_slot (pair_of pair.now) side
+        else pair_slot (pair_of pair.now)) }
+    ensures form { (columns : ℕ) → IsPairForm columns (pair_of pair.now)
+        → IfSome result (λ row. IsLeft columns row.left) }
     ensures narrow { IfSome result (λ row. IsNarrow row.le) }
 {
     let terms = pair.coef.as_slice();

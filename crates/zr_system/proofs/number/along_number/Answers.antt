@@ -10,7 +10,11 @@ use Rattle.zr_system.proofs.number.along_number.Goals as goal
 
 pub loop-v-preserved : goal.loop-v-preserved
 loop-v-preserved c =
-    let f : ℕ → ℤ × ℤ = λ v. (slope_value (game_of c.args.game.now) c.args.i v c.args.u, direction (named_of c.args.item.now) v) in
+    let f : ℕ → ℤ × ℤ = λ v. (
+      slope_value (game_of c.args.game.now) c.args.i v c.args.u,
+      direction
+          (named_of c.args.item.now) v,
+    ) in
     let fits : FitsSigned w128 c.in-Ok.next = search rules in
     let step = c.in-Ok.ensures.step in
     simp to_z-of_z (record {
@@ -20,6 +24,11 @@ loop-v-preserved c =
 
 pub returns-in-Err-clause-steps : goal.returns-in-Err-clause-steps
 returns-in-Err-clause-steps c =
-    let f : ℕ → ℤ × ℤ = λ v. (slope_value (game_of c.args.game.now) c.args.i v c.args.u, direction (named_of c.args.item.now) v) in
+    let f : ℕ → ℤ × ℤ = λ v. (
+      slope_value (game_of c.args.game.now) c.args.i v c.args.u,
+      direction
+          (named_of c.args.item.now) v,
+    ) in
     let step = c.in-Err.ensures.step in
-    sym (firsts_wide f c.loop-v.v c.args.vars _ c.in-Err.wide c.loop-v-test.true c.loop-v.invariant.sum (sym step))
+    sym (firsts_wide f c.loop-v.v c.args.vars _ c.in-Err.wide c.loop-v-test.true
+    c.loop-v.invariant.sum (sym step))

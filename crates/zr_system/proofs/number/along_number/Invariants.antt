@@ -8,6 +8,7 @@ use Rattle.zr_system.proofs.number.along_number.Given as goal
 
 abbrev pub invariant-loop-v : goal.invariant-loop-v
 invariant-loop-v l = record {
-  sum : sum_steps (pos 0) (along_products (game_of l.game) l.i (named_of l.item) l.u l.v) ≡ Ok l.sum;
+  sum : sum_steps (pos 0) (along_products (game_of l.game) l.i (named_of l.item) l.u l.v) ≡ Ok
+      l.sum;
   narrow : IsNarrow l.sum;
 }
