@@ -11,7 +11,7 @@ use Rattle.zr_game.specs.declared.leaf.Side.TheVariants.{VarZero, RowZero}
 use Rattle.zr_game.specs.Players.{PairOf, PlayerOf, VarOf}
 use Rattle.zr_game.specs.Forms.{IsPairForm, IsRowForm}
 use Rattle.zr_game.specs.Feasible.{IsFeasible, PairHolds, slack}
-use Rattle.zr_game.specs.Leaves.{Bound, BoundHolds, LeafOf, above, below, decided, greater, lesser, root_leaf, slots}
+use Rattle.zr_game.specs.Leaves.{Bound, BoundHolds, IsWholeVar, LeafOf, above, below, decided, greater, lesser, root_leaf, slots}
 use Rattle.zr_game.proofs.Items.{at_number}
 use Rattle.zr_tree.specs.Nodes.{NodeOf, SplitNode, ChooseNode, ProofNode, KnownNode, LooseNode}
 use Rattle.zr_tree.specs.Trees.{TreeOf, Split, Choose, Proof, Known, Loose}
@@ -106,14 +106,42 @@ module _ (player : PlayerOf) (x : PointOf) (feasible : IsFeasible player x) wher
       let f = at_number player.pairs p h in
       (f.0, f.1, subst (PairHolds x) (get_or_from_slice_get player.pairs p f.0 f.0 f.1) (feasible.pairs p f.0 h))
 
+  -- at a split the point is inside one of the children
+  pub one_side : (leaf : LeafOf) → Inside player leaf x → (v : ℕ) (at : ℤ) → IsWholeVar player v
+      → Inside player (below leaf v at) x ⊎ Inside player (above leaf v at) x
+  one_side leaf inside v at whole =
+      let k = whole_value v whole.0 whole.1 whole.2 in
+      ⊎_elim (λ (s : k.0 ≤ℤ at). inl (below_inside leaf inside v at
+      (rw k.1 (le_times k.0 at x.den feasible.point s))))
+      (λ (s : (at +ℤ pos 1) ≤ℤ k.0). inr (above_inside leaf inside v at
+      (rw k.1 (le_times (at +ℤ pos 1) k.0 x.den feasible.point s)))) (le_or_above k.0 at)
+
+  -- and at a choice
+  pub one_choice : (leaf : LeafOf) → Inside player leaf x → (p : ℕ) → p < length player.pairs
+      → Inside player (decided leaf p VarZero) x ⊎ Inside player (decided leaf p RowZero) x
+  one_choice leaf inside p below =
+      let hold = pair_holds p below in
+      ⊎_elim (λ (s : num_of x hold.0.var ≡ pos 0).
+      inl (decided_inside leaf inside p hold.0 VarZero hold.1 s))
+      (λ (s : slack hold.0 x ≡ pos 0).
+      inr (decided_inside leaf inside p hold.0 RowZero hold.1 s)) hold.2.2
+
   -- the point is inside one of the tree's ends
-  pub at_end : (rule : EndRule) (P : Type 0) → ((leaf : LeafOf) (node : NodeOf) → Inside player leaf x → rule leaf node → P) → (tree : TreeOf) (leaf : LeafOf) → Inside player leaf x → IsRightBy rule player leaf tree → P
+  pub at_end : (rule : EndRule) (P : Type 0)
+      → ((leaf : LeafOf) (node : NodeOf) → Inside player leaf x → rule leaf node → P)
+      → (tree : TreeOf) (leaf : LeafOf) → Inside player leaf x
+      → IsRightBy rule player leaf tree → P
   at_end rule P end (Split v at first second) leaf inside right =
-      let k = whole_value v right.0.0 right.0.1 right.0.2 in
-      ⊎_elim (λ (s : k.0 ≤ℤ at). at_end rule P end first (below leaf v at) (below_inside leaf inside v at (rw k.1 (le_times k.0 at x.den feasible.point s))) right.1) (λ (s : (at +ℤ pos 1) ≤ℤ k.0). at_end rule P end second (above leaf v at) (above_inside leaf inside v at (rw k.1 (le_times (at +ℤ pos 1) k.0 x.den feasible.point s))) right.2) (le_or_above k.0 at)
+      ⊎_elim (λ (s : Inside player (below leaf v at) x).
+      at_end rule P end first (below leaf v at) s right.1)
+      (λ (s : Inside player (above leaf v at) x).
+      at_end rule P end second (above leaf v at) s right.2) (one_side leaf inside v at right.0)
   at_end rule P end (Choose p first second) leaf inside right =
-      let hold = pair_holds p right.0.0 in
-      ⊎_elim (λ (s : num_of x hold.0.var ≡ pos 0). at_end rule P end first (decided leaf p VarZero) (decided_inside leaf inside p hold.0 VarZero hold.1 s) right.1) (λ (s : slack hold.0 x ≡ pos 0). at_end rule P end second (decided leaf p RowZero) (decided_inside leaf inside p hold.0 RowZero hold.1 s) right.2) hold.2.2
+      ⊎_elim (λ (s : Inside player (decided leaf p VarZero) x).
+      at_end rule P end first (decided leaf p VarZero) s right.1)
+      (λ (s : Inside player (decided leaf p RowZero) x).
+      at_end rule P end second (decided leaf p RowZero) s right.2)
+      (one_choice leaf inside p right.0.0)
   at_end rule P end (Proof scale mult) leaf inside right = end leaf (ProofNode scale mult) inside right
   at_end rule P end (Known y) leaf inside right = end leaf (KnownNode y) inside right
   at_end rule P end Loose leaf inside right = end leaf LooseNode inside right
@@ -128,7 +156,7 @@ module _ (player : PlayerOf) (x : PointOf) (feasible : IsFeasible player x) wher
     end_proves bound leaf (KnownNode y) inside h = absurd h
     end_proves bound leaf LooseNode inside h = absurd h
 
-    end_refutes : (leaf : LeafOf) (node : NodeOf) → Inside player leaf x → Refutes player leaf node → ⊥
+    pub end_refutes : (leaf : LeafOf) (node : NodeOf) → Inside player leaf x → Refutes player leaf node → ⊥
     end_refutes leaf (SplitNode v at) inside h = h
     end_refutes leaf (ChooseNode p) inside h = h
     end_refutes leaf (ProofNode scale mult) inside h =

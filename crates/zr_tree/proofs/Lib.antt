@@ -18,3 +18,7 @@ pub mod ColumnSums
 pub mod KnownRows
 pub mod SignedTerms
 pub mod TaskEnds
+pub mod Listing
+pub mod LeafRows
+pub mod SettledLeaves
+pub mod CoverLaws

@@ -26,6 +26,16 @@ pub size_on : (a b c : Path) → IsSameSize a b → IsSameSize b c → IsSameSiz
 size_on a b c f g =
     record { lows = g.lows ∙ f.lows; highs = g.highs ∙ f.highs; sides = g.sides ∙ f.sides; frames = g.frames ∙ f.frames }
 
+-- the nodes from number k on
+pub node_next : (nodes : List Node) (k : ℕ) (node : Node) → k < length nodes
+    → node ≡ get_or nodes k node
+    → drop k (map node_of nodes) ≡ node_of node ∷ drop (suc k) (map node_of nodes)
+node_next nodes k node below is =
+    let h : k < length (map node_of nodes) = omega (arith, below, length-map nodes node_of) in
+    drop-cons (map node_of nodes) k (node_of node) h ∙
+    ap (λ (n : NodeOf). n ∷ drop (suc k) (map node_of nodes))
+    (get_or-map node_of nodes k node (node_of node) below ∙ ap node_of (sym is))
+
 module _ (right wide : EndRule) (player : PlayerOf) (nodes : List Node) where
   abbrev listed : List NodeOf
   listed = map node_of nodes
@@ -48,9 +58,7 @@ module _ (right wide : EndRule) (player : PlayerOf) (nodes : List Node) where
 
   module _ (k : ℕ) (node : Node) (below : k < length nodes) (is : node ≡ get_or nodes k node) (old : Path) (standing : Standing k old) where
     next_node : drop k listed ≡ node_of node ∷ drop (suc k) listed
-    next_node =
-        let h : k < length listed = omega (arith, below, length-map nodes node_of) in
-        drop-cons listed k (node_of node) h ∙ ap (λ (n : NodeOf). n ∷ drop (suc k) listed) (get_or-map node_of nodes k node (node_of node) below ∙ ap node_of (sym is))
+    next_node = node_next nodes k node below is
 
     -- the first leaf that is due is the current one
     current : (t : TreeOf) → preorder t ≡ listed → Walked right wide player t k (node_of node ∷ drop (suc k) listed) (leaf_of old.leaf ∷ due_of old)

@@ -14,3 +14,4 @@ pub mod Visits
 pub mod Covers
 pub mod CoverSteps
 pub mod Tasks
+pub mod Openings

@@ -8,6 +8,7 @@ mod fault;
 mod form;
 mod known;
 mod laws;
+mod leaves;
 mod node;
 mod path;
 mod proof;
@@ -18,7 +19,11 @@ mod tree;
 
 pub use check::{bounds, cover};
 pub use fault::Fault;
-pub use laws::{law_of_nodes, law_of_passing, law_of_refuted_trees, law_of_right_trees};
+pub use laws::{
+    law_of_covers, law_of_later_rows, law_of_nodes, law_of_passing, law_of_passing_covers,
+    law_of_refuted_trees, law_of_right_trees,
+};
+pub use leaves::leaves_of;
 pub use node::Node;
 pub use scratch::Scratch;
 pub use tree::Tree;

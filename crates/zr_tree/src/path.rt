@@ -119,7 +119,7 @@ pub(crate) fn enter_split(player: &Player, var: u32, at: i64, path: &mut Path)
 }
 
 /// The lesser of a bound, if there is one, and a number.
-fn lesser_of(high: Option<i64>, at: i64) -> i64
+pub(crate) fn lesser_of(high: Option<i64>, at: i64) -> i64
     ensures { result ≡ lesser high at }
 {
     match high {
@@ -129,7 +129,7 @@ fn lesser_of(high: Option<i64>, at: i64) -> i64
 }
 
 /// The greater of a bound, if there is one, and the number after `at`.
-fn greater_of(low: Option<i64>, at: i64) -> i64
+pub(crate) fn greater_of(low: Option<i64>, at: i64) -> i64
     requires { at ≤ℤ greatest_split }
     ensures { result ≡ greater low (at +ℤ pos 1) }
 {

@@ -9,8 +9,9 @@ use Rattle.zr_tree.specs.Nodes.{node_of}
 use Rattle.zr_tree.specs.Scratches.{Places}
 use Rattle.zr_tree.specs.Covers.{KeepsCover}
 use Rattle.zr_tree.specs.CoverSteps.{CoverPasses, IsRefusedCover, IsWideForCover}
+use Rattle.zr_tree.proofs.CoverLaws.{cover_holds}
 use Rattle.zr_tree.proofs.Greatest.{at_most_greatest}
-use Rattle.zr_tree.proofs.PassLaws.{exact_told}
+use Rattle.zr_tree.proofs.PassLaws.{exact_told, right_if}
 use Rattle.zr_tree.proofs.check.cover.Goals as goal
 use Rattle.zr_tree.proofs.check.cover.Goals.{After-index-player}
 
@@ -75,3 +76,15 @@ returns-clause-exact c player is t e =
     (h t listed)) in
     exact_told (KeepsCover player) (IsWideForCover player) player t (root_leaf player)
     c.walk.result ok err
+
+pub returns-clause-sound : goal.returns-clause-sound
+returns-clause-sound c =
+    let at = (goal.at.returns-clause-sound c).After-index-player in
+    on_ok_weaker c.walk.result (λ h player is t e.
+    let g = c.args.game.now.sound.players c.args.i player is in
+    let passes : CoverPasses player (root_leaf player) t =
+    subst (λ (p : PlayerOf). CoverPasses p (root_leaf p) t) (same at player is)
+    (h t (e ∙ ap (map node_of) (sym c.deref.ensures.value))) in
+    cover_holds player g.rows g.pairs g.from_zero t
+    (right_if (KeepsCover player) (IsWideForCover player) player t (root_leaf player) passes).0)
+    c.walk.ensures.ok
