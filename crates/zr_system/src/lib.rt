@@ -16,6 +16,7 @@ pub use build::rows;
 pub use counts::{is_exact, leaf_count, named_count, player_count, var_count};
 pub use laws::law_of_worked_counts;
 pub use leaves::{Leaves, Region, SystemError};
+pub use line::Line;
 pub use present::{is_present, slot_count};
 pub use unknown::{Unknown, unknowns};
 pub use zr_base::NoMemory;

@@ -17,7 +17,7 @@ use zr_game::{Choice, Game};
 /// together
 /// that a form is zero.
 #[derive(Clone, Copy, Debug, PartialEq, Eq)]
-pub(crate) enum Line {
+pub enum Line {
     /// The weights sum to at most 1, or where `negated` to at least 1.
     Weights {
         player: usize,

@@ -1,0 +1,6 @@
+//! Equilibria and the system: each equilibrium gives a solution of it, and solutions give them.
+#![tactic(auto)]
+
+mod laws;
+
+pub use laws::law_of_solutions;
