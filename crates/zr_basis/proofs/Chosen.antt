@@ -5,14 +5,15 @@ use Rattle.std.proofs.lemmas.Bool.{cases_eq}
 use Rattle.zr_base.proofs.Ring.{spread}
 use Rattle.zr_base.proofs.Divisors.{mul_positive}
 use Rattle.zr_basis.specs.Programs.{Program}
-use Rattle.zr_basis.specs.BasicForms.{value_column, right_column, IsBasicForm, IsBasicDirection}
+use Rattle.zr_basis.specs.BasicForms.{value_column, right_column, IsFree, IsBasicForm, IsBasicDirection}
+use Rattle.zr_basis.specs.Orders.{Order, IsOrder, in_order}
 use Rattle.zr_basis.specs.Vectors.{IsLeading, IsLower}
 use Rattle.zr_basis.specs.Primal.{vector, IsPrimalDue}
 use Rattle.zr_basis.specs.Dual.{IsDirectionBelow, IsDualDue}
 use Rattle.zr_basis.proofs.Signs.{sign, side}
 use Rattle.zr_basis.proofs.Vectors.{IsNought, never_both, in_proportion, three_ways, lower_trans, lower_apart}
 use Rattle.zr_basis.proofs.Solved.{direction}
-use Rattle.zr_basis.proofs.Links.{free_under, same_ray}
+use Rattle.zr_basis.proofs.Links.{free_under, same_direction}
 
 -- one of the first n that none of them is below, or none of them is marked
 least_of : (n : ℕ) (Marked : ℕ → Type 0) (Below : ℕ → ℕ → Type 0) → ((i : ℕ) → Marked i ⊎ (Marked i → ⊥)) → ((i k : ℕ) → Marked i → Marked k → Below i k ⊎ (Below i k → ⊥)) → ((i k m : ℕ) → Marked i → Marked k → Marked m → Below i k → Below k m → Below i m) → ((i : ℕ) → Marked i → Below i i → ⊥) → ((r : ℕ) × (r < n) × Marked r × ((i : ℕ) → i < n → Marked i → Below i r → ⊥)) ⊎ ((i : ℕ) → i < n → Marked i → ⊥)
@@ -49,18 +50,21 @@ scaled_gap x y u v d e c f k l first second =
     simp spread (omega (arith, ints, g, h))
 
 -- it goes by the columns which direction is lower
-lower_alike : (p : Program) (basis : ℕ → ℕ) (form : ℕ → ℕ → ℤ) → IsBasicForm p basis form → (k l : ℕ) (s t : ℤ) (y v : ℕ → ℤ) (e f : ℤ) → IsBasicDirection p basis form k y e → IsBasicDirection p basis form k v f → (x u : ℕ → ℤ) (d c : ℤ) → IsBasicDirection p basis form l x d → IsBasicDirection p basis form l u c → IsLower (value_column p) y (e *ℤ s) x (d *ℤ t) → IsLower (value_column p) v (f *ℤ s) u (c *ℤ t)
-lower_alike p basis form basic k l s t y v e f ray_y ray_v x u d c ray_x ray_u lower = in_proportion (value_column p) (λ j. u j *ℤ (f *ℤ s) -ℤ v j *ℤ (c *ℤ t)) (λ j. x j *ℤ (e *ℤ s) -ℤ y j *ℤ (d *ℤ t)) (d *ℤ e) (c *ℤ f) (mul_positive d e ray_x.positive ray_y.positive) (mul_positive c f ray_u.positive ray_v.positive) (λ j h. scaled_gap (x j) (y j) (u j) (v j) d e c f s t (proportional (x j) (u j) d c (same_ray p basis form basic l (pos 1) x u d c ray_x ray_u j h)) (proportional (y j) (v j) e f (same_ray p basis form basic k (pos 1) y v e f ray_y ray_v j h))) lower
+lower_alike : (p : Program) (order : Order) → IsOrder p order → (basis : ℕ → ℕ) (form : ℕ → ℕ → ℤ) → IsBasicForm p basis form → (k l : ℕ) → IsFree p basis k → IsFree p basis l → (s t : ℤ) (y v : ℕ → ℤ) (e f : ℤ) → IsBasicDirection p basis form k y e → IsBasicDirection p basis form k v f → (x u : ℕ → ℤ) (d c : ℤ) → IsBasicDirection p basis form l x d → IsBasicDirection p basis form l u c → IsLower order.count (in_order p order y) (e *ℤ s) (in_order p order x) (d *ℤ t) → IsLower order.count (in_order p order v) (f *ℤ s) (in_order p order u) (c *ℤ t)
+lower_alike p order ordered basis form basic k l free_k free_l s t y v e f ray_y ray_v x u d c ray_x ray_u lower = in_proportion order.count (λ j. in_order p order u j *ℤ (f *ℤ s) -ℤ in_order p order v j *ℤ (c *ℤ t)) (λ j. in_order p order x j *ℤ (e *ℤ s) -ℤ in_order p order y j *ℤ (d *ℤ t)) (d *ℤ e) (c *ℤ f) (mul_positive d e ray_x.positive ray_y.positive) (mul_positive c f ray_u.positive ray_v.positive) (λ j h. scaled_gap (in_order p order x j) (in_order p order y j) (in_order p order u j) (in_order p order v j) d e c f s t (proportional (in_order p order x j) (in_order p order u j) d c (same_direction p basis form basic l free_l (pos 1) x u d c ray_x ray_u (order.column j) (ordered.inside j h))) (proportional (in_order p order y j) (in_order p order v j) e f (same_direction p basis form basic k free_k (pos 1) y v e f ray_y ray_v (order.column j) (ordered.inside j h)))) lower
 
-module _ (p : Program) (basis : ℕ → ℕ) (form : ℕ → ℕ → ℤ) (basic : IsBasicForm p basis form) (row : ℕ) (below : row < p.rows) where
+module _ (p : Program) (order : Order) (ordered : IsOrder p order) (basis : ℕ → ℕ) (form : ℕ → ℕ → ℤ) (basic : IsBasicForm p basis form) (row : ℕ) (below : row < p.rows) where
   abbrev pub Marked : ℕ → Type 0
   Marked k = (k < value_column p) × (form row k <ℤ (pos 0))
 
   abbrev pub Below : ℕ → ℕ → Type 0
-  Below k l = IsDirectionBelow p basis form row k l
+  Below k l = IsDirectionBelow p order basis form row k l
+
+  is_free : (k : ℕ) → Marked k → IsFree p basis k
+  is_free k (h, under) = (h, free_under p basis form basic row k below under)
 
   ray_of : (k : ℕ) → Marked k → (x : ℕ → ℤ) × (d : ℤ) × IsBasicDirection p basis form k x d
-  ray_of k (h, under) = direction p basis form basic k (h, free_under p basis form basic row k below under)
+  ray_of k m = direction p basis form basic k (is_free k m)
 
   marks : (k : ℕ) → Marked k ⊎ (Marked k → ⊥)
   marks k = ⊎_elim (λ (h : k < value_column p). ⊎_elim (λ (a : (pos 0) <ℤ neg_ℤ (form row k)). inl (h, omega (arith, ints, a))) (λ (n : (pos 0) <ℤ neg_ℤ (form row k) → ⊥). inr (λ m. n (let b = m.1 in omega (arith, ints, b)))) (above_or (neg_ℤ (form row k)))) (λ (h : value_column p ≤ k). inr (λ m. let b = m.0 in omega (arith, b, h))) (side k (value_column p))
@@ -69,7 +73,7 @@ module _ (p : Program) (basis : ℕ → ℕ) (form : ℕ → ℕ → ℤ) (basic
   decides k l m n = by (ray_of k m) (ray_of l n)
     where
       by : (y : ℕ → ℤ) × (e : ℤ) × IsBasicDirection p basis form k y e → (x : ℕ → ℤ) × (d : ℤ) × IsBasicDirection p basis form l x d → Below k l ⊎ (Below k l → ⊥)
-      by (y, e, ray_y) (x, d, ray_x) = ⊎_elim (λ (a : IsLower (value_column p) y (e *ℤ neg_ℤ (form row k)) x (d *ℤ neg_ℤ (form row l))). inl (λ v f ray_v u c ray_u. lower_alike p basis form basic k l (neg_ℤ (form row k)) (neg_ℤ (form row l)) y v e f ray_y ray_v x u d c ray_x ray_u a)) (λ (never : IsLower (value_column p) y (e *ℤ neg_ℤ (form row k)) x (d *ℤ neg_ℤ (form row l)) → ⊥). inr (λ all. never (all y e ray_y x d ray_x))) (leading_or (value_column p) (λ j. x j *ℤ (e *ℤ neg_ℤ (form row k)) -ℤ y j *ℤ (d *ℤ neg_ℤ (form row l))))
+      by (y, e, ray_y) (x, d, ray_x) = ⊎_elim (λ (a : IsLower order.count (in_order p order y) (e *ℤ neg_ℤ (form row k)) (in_order p order x) (d *ℤ neg_ℤ (form row l))). inl (λ v f ray_v u c ray_u. lower_alike p order ordered basis form basic k l (is_free k m) (is_free l n) (neg_ℤ (form row k)) (neg_ℤ (form row l)) y v e f ray_y ray_v x u d c ray_x ray_u a)) (λ (never : IsLower order.count (in_order p order y) (e *ℤ neg_ℤ (form row k)) (in_order p order x) (d *ℤ neg_ℤ (form row l)) → ⊥). inr (λ all. never (all y e ray_y x d ray_x))) (leading_or order.count (λ j. in_order p order x j *ℤ (e *ℤ neg_ℤ (form row k)) -ℤ in_order p order y j *ℤ (d *ℤ neg_ℤ (form row l))))
 
   up : (k : ℕ) → Marked k → (d : ℤ) → (pos 0) <ℤ d → (pos 0) <ℤ (d *ℤ neg_ℤ (form row k))
   up k m d h = mul_positive d (neg_ℤ (form row k)) h (let b = m.1 in omega (arith, ints, b))
@@ -77,27 +81,27 @@ module _ (p : Program) (basis : ℕ → ℕ) (form : ℕ → ℕ → ℤ) (basic
   pub chain : (k l m : ℕ) → Marked k → Marked l → Marked m → Below k l → Below l m → Below k m
   chain k l m a b c first second y e ray_y x d ray_x = by (ray_of l b)
     where
-      by : (v : ℕ → ℤ) × (f : ℤ) × IsBasicDirection p basis form l v f → IsLower (value_column p) y (e *ℤ neg_ℤ (form row k)) x (d *ℤ neg_ℤ (form row m))
+      by : (v : ℕ → ℤ) × (f : ℤ) × IsBasicDirection p basis form l v f → IsLower order.count (in_order p order y) (e *ℤ neg_ℤ (form row k)) (in_order p order x) (d *ℤ neg_ℤ (form row m))
       by (v, f, ray_v) =
-          lower_trans (value_column p) y v x (e *ℤ neg_ℤ (form row k)) (f *ℤ neg_ℤ (form row l)) (d *ℤ neg_ℤ (form row m)) (up k a e ray_y.positive) (up l b f ray_v.positive) (up m c d ray_x.positive) (first y e ray_y v f ray_v) (second v f ray_v x d ray_x)
+          lower_trans order.count (in_order p order y) (in_order p order v) (in_order p order x) (e *ℤ neg_ℤ (form row k)) (f *ℤ neg_ℤ (form row l)) (d *ℤ neg_ℤ (form row m)) (up k a e ray_y.positive) (up l b f ray_v.positive) (up m c d ray_x.positive) (first y e ray_y v f ray_v) (second v f ray_v x d ray_x)
 
   pub self : (k : ℕ) → Marked k → Below k k → ⊥
   self k m below = by (ray_of k m)
     where
       by : (y : ℕ → ℤ) × (e : ℤ) × IsBasicDirection p basis form k y e → ⊥
       by (y, e, ray) =
-          lower_apart (value_column p) y y (e *ℤ neg_ℤ (form row k)) (e *ℤ neg_ℤ (form row k)) (λ j h. refl) (below y e ray y e ray)
+          lower_apart order.count (in_order p order y) (in_order p order y) (e *ℤ neg_ℤ (form row k)) (e *ℤ neg_ℤ (form row k)) (λ j h. refl) (below y e ray y e ray)
 
   -- a column whose direction none is below is the one that the dual rule takes
-  pub due_if_least : (r : ℕ) → Marked r → form row (right_column p) <ℤ (pos 0) → ((i : ℕ) → i < value_column p → Marked i → Below i r → ⊥) → IsDualDue p basis form row r
+  pub due_if_least : (r : ℕ) → Marked r → form row (right_column p) <ℤ (pos 0) → ((i : ℕ) → Marked i → Below i r → ⊥) → IsDualDue p order basis form row r
   due_if_least r m right all = with_ray (ray_of r m)
     where
-      with_ray : (x : ℕ → ℤ) × (d : ℤ) × IsBasicDirection p basis form r x d → IsDualDue p basis form row r
-      with_ray (x, d, ray) = record { below = below; column = m.0; right = right; under = m.1; direction = x; over = d; is_direction = ray; least = λ i free b y e ray_y lower. all i free.0 (free.0, b) (λ v f ray_v u c ray_u. lower_alike p basis form basic i r (neg_ℤ (form row i)) (neg_ℤ (form row r)) y v e f ray_y ray_v x u d c ray ray_u lower) }
+      with_ray : (x : ℕ → ℤ) × (d : ℤ) × IsBasicDirection p basis form r x d → IsDualDue p order basis form row r
+      with_ray (x, d, ray) = record { below = below; column = m.0; right = right; under = m.1; direction = x; over = d; is_direction = ray; least = λ i free b y e ray_y lower. all i (free.0, b) (λ v f ray_v u c ray_u. lower_alike p order ordered basis form basic i r free (is_free r m) (neg_ℤ (form row i)) (neg_ℤ (form row r)) y v e f ray_y ray_v x u d c ray ray_u lower) }
 
   -- where a right side is below zero, and so is a number of its row, the dual rule has a column
-  pub dual_column : (k : ℕ) → k < value_column p → form row k <ℤ (pos 0) → form row (right_column p) <ℤ (pos 0) → (col : ℕ) × IsDualDue p basis form row col
+  pub dual_column : (k : ℕ) → k < value_column p → form row k <ℤ (pos 0) → form row (right_column p) <ℤ (pos 0) → (col : ℕ) × IsDualDue p order basis form row col
   dual_column k h under right = ⊎_elim found (λ (none : (i : ℕ) → i < value_column p → Marked i → ⊥). absurd (none k h (h, under))) (least_of (value_column p) Marked Below marks decides chain self)
     where
-      found : (r : ℕ) × (r < value_column p) × Marked r × ((i : ℕ) → i < value_column p → Marked i → Below i r → ⊥) → (col : ℕ) × IsDualDue p basis form row col
-      found (r, g, m, all) = (r, due_if_least r m right all)
+      found : (r : ℕ) × (r < value_column p) × Marked r × ((i : ℕ) → i < value_column p → Marked i → Below i r → ⊥) → (col : ℕ) × IsDualDue p order basis form row col
+      found (r, g, m, all) = (r, due_if_least r m right (λ i q. all i q.0 q))

@@ -2,9 +2,13 @@ pub mod Signs
 pub mod Vectors
 pub mod Among
 pub mod Unique
+pub mod Sums
+pub mod Complete
 pub mod Turned
 pub mod Primal
 pub mod Solved
+pub mod Values
+pub mod Ordered
 pub mod DualNumbers
 pub mod Dual
 pub mod Links

@@ -2,12 +2,14 @@
 use Rattle.std.proofs.Common.{◌≡◌, ℕ, ◌+◌, ◌<◌, ◌≤◌, arith, refl, ap, Option, None, Some, MatchOption, ℤ, pos, ◌-ℤ◌, ◌*ℤ◌, ◌<ℤ◌, ◌≤ℤ◌, ◌⊎◌, ⊎_elim}
 use Rattle.std.proofs.lemmas.Int.{ints}
 use Rattle.zr_basis.specs.Programs.{Program}
-use Rattle.zr_basis.specs.BasicForms.{right_column, value_column, IsBasicForm}
+use Rattle.zr_basis.specs.BasicForms.{right_column, value_column, IsFree, IsBasicForm}
+use Rattle.zr_basis.specs.Orders.{Order, IsOrder}
 use Rattle.zr_basis.specs.Primal.{vector, place, IsRowBelow, IsPrimalDue}
 use Rattle.zr_basis.specs.Dual.{IsDirectionBelow, IsDualDue}
 use Rattle.zr_basis.proofs.Signs.{side, sign}
 use Rattle.zr_basis.proofs.Vectors.{lower_apart, lower_trans}
 use Rattle.zr_basis.proofs.Chosen as AChosen
+use Rattle.zr_basis.proofs.Links.{free_under}
 use Rattle.zr_basis.proofs.Least.{IsLeast, IsBestSoFar, IsBetter, one_marked, one_unmarked}
 
 not_above : (z : ℤ) → ((pos 0) <ℤ z → ⊥) → z ≤ℤ (pos 0)
@@ -65,19 +67,32 @@ module _ (p : Program) (start : ℕ → ℕ) (form : ℕ → ℕ → ℤ) (col :
     row_level level =
         lower_apart (p.rows + 1) (vector p start (form row)) (vector p start (form last)) (form row col) (form last col) level
 
-module _ (p : Program) (basis : ℕ → ℕ) (form : ℕ → ℕ → ℤ) (basic : IsBasicForm p basis form) (row : ℕ) (below : row < p.rows) where
+-- the columns off the basis stand at the places 0, .., p.columns - 1 of a list
+module _ (p : Program) (order : Order) (ordered : IsOrder p order) (basis : ℕ → ℕ) (form : ℕ → ℕ → ℤ) (basic : IsBasicForm p basis form) (row : ℕ) (below : row < p.rows) (free : ℕ → ℕ) (inside : (k : ℕ) → k < p.columns → free k < value_column p) (all : (j : ℕ) → IsFree p basis j → (k : ℕ) × (k < p.columns) × (free k ≡ j)) where
   abbrev pub IsUnder : ℕ → Type 0
-  IsUnder k = (k < value_column p) × (form row k <ℤ (pos 0))
+  IsUnder k = (k < p.columns) × (form row (free k) <ℤ (pos 0))
 
-  pub column_skipped : (k : ℕ) (best : Option ℕ) → (pos 0) ≤ℤ form row k → IsBestSoFar IsUnder (IsDirectionBelow p basis form row) k best → IsBestSoFar IsUnder (IsDirectionBelow p basis form row) (k + 1) best
+  abbrev pub IsPlaceBelow : ℕ → ℕ → Type 0
+  IsPlaceBelow k l = IsDirectionBelow p order basis form row (free k) (free l)
+
+  marked : (k : ℕ) → IsUnder k → AChosen.Marked p order ordered basis form basic row below (free k)
+  marked k (h, under) = (inside k h, under)
+
+  pub column_skipped : (k : ℕ) (best : Option ℕ) → (pos 0) ≤ℤ form row (free k) → IsBestSoFar IsUnder IsPlaceBelow k best → IsBestSoFar IsUnder IsPlaceBelow (k + 1) best
   column_skipped k best high =
-      one_unmarked IsUnder (IsDirectionBelow p basis form row) k best (λ m. let under = m.1 in omega (arith, ints, high, under))
+      one_unmarked IsUnder IsPlaceBelow k best (λ m. let under = m.1 in omega (arith, ints, high, under))
 
-  pub column_taken : (k : ℕ) (best : Option ℕ) (result : ℕ) → IsUnder k → IsBestSoFar IsUnder (IsDirectionBelow p basis form row) k best → IsBetter (IsDirectionBelow p basis form row) best k result → IsLeast IsUnder (IsDirectionBelow p basis form row) (k + 1) result
+  pub column_taken : (k : ℕ) (best : Option ℕ) (result : ℕ) → IsUnder k → IsBestSoFar IsUnder IsPlaceBelow k best → IsBetter IsPlaceBelow best k result → IsLeast IsUnder IsPlaceBelow (k + 1) result
   column_taken =
-      one_marked IsUnder (IsDirectionBelow p basis form row) (AChosen.chain p basis form basic row below) (AChosen.self p basis form basic row below)
+      one_marked IsUnder IsPlaceBelow (λ i k m a b c. AChosen.chain p order ordered basis form basic row below (free i) (free k) (free m) (marked i a) (marked k b) (marked m c)) (λ i a. AChosen.self p order ordered basis form basic row below (free i) (marked i a))
 
-  pub column_found : (best : Option ℕ) → form row (right_column p) <ℤ (pos 0) → IsBestSoFar IsUnder (IsDirectionBelow p basis form row) (value_column p) best → MatchOption best ((j : ℕ) → j < value_column p → (pos 0) ≤ℤ form row j) (IsDualDue p basis form row)
-  column_found None right none = λ j h. not_under (form row j) (λ b. none j h (h, b))
-  column_found (Some col) right first =
-      AChosen.due_if_least p basis form basic row below col first.marked right first.least
+  -- a column where the row is below zero stands there
+  place_of : (j : ℕ) → j < value_column p → form row j <ℤ (pos 0) → (k : ℕ) × (k < p.columns) × (free k ≡ j)
+  place_of j h under = all j (h, free_under p basis form basic row j below under)
+
+  pub column_found : (best : Option ℕ) → form row (right_column p) <ℤ (pos 0) → IsBestSoFar IsUnder IsPlaceBelow p.columns best → MatchOption best ((j : ℕ) → j < value_column p → (pos 0) ≤ℤ form row j) (λ k. (k < p.columns) × IsDualDue p order basis form row (free k))
+  column_found None right none = λ j h. not_under (form row j) (λ b. let at = place_of j h b in none at.0 at.1 (at.1, rw at.2 b))
+  column_found (Some best) right first = (
+    first.inside,
+    AChosen.due_if_least p order ordered basis form basic row below (free best) (marked best first.marked) right (λ j m lower. let at = place_of j m.0 m.1 in first.least at.0 at.1 (at.1, rw at.2 m.1) (rw at.2 lower)),
+  )

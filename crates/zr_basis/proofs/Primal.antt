@@ -24,7 +24,7 @@ positive_at_start p basis form basic feasible i h = ⊎_elim (λ (a : (pos 0) <�
     before z zero q = z
     before z (suc m) q = basic.other i m (omega arith) (omega arith) (λ (s : i ≡ m). omega arith)
 
-leading_first : (n : ℕ) (v : ℕ → ℤ) → IsLeading n v → (pos 0) ≤ℤ v 0
+pub leading_first : (n : ℕ) (v : ℕ → ℤ) → IsLeading n v → (pos 0) ≤ℤ v 0
 leading_first n v lead = ⊎_elim (λ (h : 0 < lead.0). let z = lead.2 0 h in omega (arith, ints, z)) (λ (h : lead.0 ≤ 0). let e : lead.0 ≡ 0 = omega arith in let z = ap v e in let a = lead.3 in omega (arith, ints, z, a)) (side 0 lead.0)
 
 -- no right side is below zero where the vectors are positive

@@ -7,6 +7,7 @@ use Rattle.zr_base.proofs.Ring.{spread}
 use Rattle.zr_base.proofs.Divisors.{mul_positive}
 use Rattle.zr_basis.specs.Programs.{Program}
 use Rattle.zr_basis.specs.BasicForms.{value_column, right_column, IsBasicSolution}
+use Rattle.zr_basis.specs.Orders.{Order, IsOrder, in_order}
 use Rattle.zr_basis.specs.Stages.{Stage, IsShort, IsFeasibleForm}
 use Rattle.zr_basis.specs.Bases.{IsBasis, IsOtherBasis}
 use Rattle.zr_basis.specs.Choices.{choose}
@@ -18,7 +19,8 @@ use Rattle.zr_basis.proofs.Vectors.{in_proportion, lower_trans, lower_apart}
 use Rattle.zr_basis.proofs.Unique as AUnique
 use Rattle.zr_basis.proofs.Solved.{solution, same_solution}
 use Rattle.zr_basis.proofs.Primal.{positive_at_start, feasible_if, primal_keeps, primal_drops}
-use Rattle.zr_basis.proofs.Dual.{positive_at_slacks, dual_keeps, dual_rises}
+use Rattle.zr_basis.proofs.Dual.{dual_keeps, dual_rises}
+use Rattle.zr_basis.proofs.Ordered.{entries_alike}
 use Rattle.zr_basis.proofs.Among.{HaveSameColumns, basis_of_form, same_columns}
 use Rattle.zr_basis.proofs.Visiting.{few_in_run}
 
@@ -43,8 +45,8 @@ self p basis = ((λ i h. (i, h, refl)), (λ i h. (i, h, refl)))
 rescaled : (y v z d e g : ℤ) → y *ℤ e ≡ v *ℤ d → e *ℤ (z *ℤ d -ℤ y *ℤ g) ≡ d *ℤ (z *ℤ e -ℤ v *ℤ g)
 rescaled y v z d e g h = let k = simp spread at (ap (λ q. q *ℤ g) h) in simp spread (omega (arith, ints, k))
 
-pub rises_trans : (p : Program) (one two three : Stage p) → Rises p one.basis one.form two.basis two.form → Rises p two.basis two.form three.basis three.form → Rises p one.basis one.form three.basis three.form
-rises_trans p one two three (x, d, y, e, at, to, lower) (v, c, z, g, from, end, higher) = (x, d, z, g, at, end, lower_trans (value_column p) x y z d e g at.positive to.positive end.positive lower (in_proportion (value_column p) (λ j. z j *ℤ e -ℤ y j *ℤ g) (λ j. z j *ℤ c -ℤ v j *ℤ g) c e from.positive to.positive (λ j h. rescaled (y j) (v j) (z j) e c g (same_solution p two.basis two.basis two.form two.form two.basic two.basic (self p two.basis) y v e c to from j h)) higher))
+pub rises_trans : (p : Program) (order : Order) → IsOrder p order → (one two three : Stage p) → Rises p order one.basis one.form two.basis two.form → Rises p order two.basis two.form three.basis three.form → Rises p order one.basis one.form three.basis three.form
+rises_trans p order ordered one two three (x, d, y, e, at, to, lower) (v, c, z, g, from, end, higher) = (x, d, z, g, at, end, lower_trans order.count (in_order p order x) (in_order p order y) (in_order p order z) d e g at.positive to.positive end.positive lower (in_proportion order.count (λ j. in_order p order z j *ℤ e -ℤ in_order p order y j *ℤ g) (λ j. in_order p order z j *ℤ c -ℤ in_order p order v j *ℤ g) c e from.positive to.positive (λ j h. rescaled (in_order p order y j) (in_order p order v j) (in_order p order z j) e c g (entries_alike p y v c e (same_solution p two.basis two.basis two.form two.form two.basic two.basic (self p two.basis) y v e c to from) (order.column j) (ordered.inside j h))) higher))
 
 own_value : (p : Program) (s : Stage p) → (pos 0) <ℤ s.form p.rows (value_column p)
 own_value p s = rw (← s.basic.value) (s.basic.own p.rows (omega arith))
@@ -52,16 +54,16 @@ own_value p s = rw (← s.basic.value) (s.basic.own p.rows (omega arith))
 pub drops_trans : (p : Program) (start one two three : Stage p) → Drops p start.basis one.form two.form → Drops p start.basis two.form three.form → Drops p start.basis one.form three.form
 drops_trans p start one two three first second = lower_trans (p.rows + 1) (vector p start.basis (three.form p.rows)) (vector p start.basis (two.form p.rows)) (vector p start.basis (one.form p.rows)) (three.form p.rows (value_column p)) (two.form p.rows (value_column p)) (one.form p.rows (value_column p)) (own_value p three) (own_value p two) (own_value p one) second first
 
-pub falls_trans : (p : Program) (start one two three : Stage p) → Falls p start one two → Falls p start two three → Falls p start one three
-falls_trans p start one two three (inl (s, f)) (inl (t, g)) = absurd (never_both p two.form t f)
-falls_trans p start one two three (inl (s, f)) (inr (inl (t, g, r))) = absurd (never_both p two.form t f)
-falls_trans p start one two three (inl (s, f)) (inr (inr (t, g, d))) = inl (s, g)
-falls_trans p start one two three (inr (inl (s, f, r))) (inl (t, g)) = inl (s, g)
-falls_trans p start one two three (inr (inl (s, f, r))) (inr (inl (t, g, q))) = inr (inl (s, g, rises_trans p one two three r q))
-falls_trans p start one two three (inr (inl (s, f, r))) (inr (inr (t, g, d))) = absurd (never_both p two.form f t)
-falls_trans p start one two three (inr (inr (s, f, r))) (inl (t, g)) = absurd (never_both p two.form t f)
-falls_trans p start one two three (inr (inr (s, f, r))) (inr (inl (t, g, q))) = absurd (never_both p two.form t f)
-falls_trans p start one two three (inr (inr (s, f, r))) (inr (inr (t, g, d))) = inr (inr (s, g, drops_trans p start one two three r d))
+pub falls_trans : (p : Program) (order : Order) → IsOrder p order → (start one two three : Stage p) → Falls p order start one two → Falls p order start two three → Falls p order start one three
+falls_trans p order ordered start one two three (inl (s, f)) (inl (t, g)) = absurd (never_both p two.form t f)
+falls_trans p order ordered start one two three (inl (s, f)) (inr (inl (t, g, r))) = absurd (never_both p two.form t f)
+falls_trans p order ordered start one two three (inl (s, f)) (inr (inr (t, g, d))) = inl (s, g)
+falls_trans p order ordered start one two three (inr (inl (s, f, r))) (inl (t, g)) = inl (s, g)
+falls_trans p order ordered start one two three (inr (inl (s, f, r))) (inr (inl (t, g, q))) = inr (inl (s, g, rises_trans p order ordered one two three r q))
+falls_trans p order ordered start one two three (inr (inl (s, f, r))) (inr (inr (t, g, d))) = absurd (never_both p two.form f t)
+falls_trans p order ordered start one two three (inr (inr (s, f, r))) (inl (t, g)) = absurd (never_both p two.form t f)
+falls_trans p order ordered start one two three (inr (inr (s, f, r))) (inr (inl (t, g, q))) = absurd (never_both p two.form t f)
+falls_trans p order ordered start one two three (inr (inr (s, f, r))) (inr (inr (t, g, d))) = inr (inr (s, g, drops_trans p start one two three r d))
 
 sign_kept : (m r o q : ℤ) → (pos 0) <ℤ m → (pos 0) <ℤ o → m *ℤ r ≡ o *ℤ q → r <ℤ (pos 0) → q <ℤ (pos 0)
 sign_kept m r o q mp op e b = ⊎_elim (λ (a : (pos 0) <ℤ q). absurd (let u = mul_positive o q op a in let v = mul_positive m (neg_ℤ r) mp (omega (arith, ints, b)) in let w : m *ℤ neg_ℤ r ≡ neg_ℤ (m *ℤ r) = simp spread refl in omega (arith, ints, u, v, w, e))) (λ (r2 : (q ≡ pos 0) ⊎ (q <ℤ (pos 0))). ⊎_elim (λ (z : q ≡ pos 0). absurd (let v = mul_positive m (neg_ℤ r) mp (omega (arith, ints, b)) in let w : m *ℤ neg_ℤ r ≡ neg_ℤ (m *ℤ r) = simp spread refl in let t = ap (λ k. o *ℤ k) z in omega (arith, ints, t, v, w, e))) (λ (c : q <ℤ (pos 0)). c) r2) (sign q)
@@ -86,34 +88,35 @@ turned_about m f a b e =
 drops_apart : (p : Program) (start one two : Stage p) → HaveSameColumns p one.basis two.basis → Drops p start.basis one.form two.form → ⊥
 drops_apart p start one two same lower = lower_apart (p.rows + 1) (vector p start.basis (two.form p.rows)) (vector p start.basis (one.form p.rows)) (two.form p.rows (value_column p)) (one.form p.rows (value_column p)) (λ k h. turned_about (vector p start.basis (two.form p.rows) k) (vector p start.basis (one.form p.rows) k) (two.form p.rows (value_column p)) (one.form p.rows (value_column p)) (ap (λ c. two.form p.rows c *ℤ vector p start.basis (one.form p.rows) k) (sym two.basic.value) ∙ AUnique.in_proportion p one.basis two.basis one.form two.form one.basic two.basic same p.rows p.rows (omega arith) (omega arith) (one.basic.value ∙ sym two.basic.value) (place p start.basis k) (inside p start k h) ∙ ap (λ c. one.form p.rows c *ℤ vector p start.basis (two.form p.rows) k) one.basic.value)) lower
 
-rises_apart : (p : Program) (one two : Stage p) → HaveSameColumns p one.basis two.basis → Rises p one.basis one.form two.basis two.form → ⊥
-rises_apart p one two same (x, d, y, e, at, to, lower) =
-    lower_apart (value_column p) x y d e (same_solution p one.basis two.basis one.form two.form one.basic two.basic same x y d e at to) lower
+rises_apart : (p : Program) (order : Order) → IsOrder p order → (one two : Stage p) → HaveSameColumns p one.basis two.basis → Rises p order one.basis one.form two.basis two.form → ⊥
+rises_apart p order ordered one two same (x, d, y, e, at, to, lower) =
+    lower_apart order.count (in_order p order x) (in_order p order y) d e (λ k h. entries_alike p x y e d (same_solution p one.basis two.basis one.form two.form one.basic two.basic same x y d e at to) (order.column k) (ordered.inside k h)) lower
 
 -- a stage that falls from another hasn't its columns
-pub falls_apart : (p : Program) (start one two : Stage p) → HaveSameColumns p one.basis two.basis → Falls p start one two → ⊥
-falls_apart p start one two same (inl (s, f)) = short_alike p one two same s f
-falls_apart p start one two same (inr (inl (s, f, r))) = rises_apart p one two same r
-falls_apart p start one two same (inr (inr (s, f, d))) = drops_apart p start one two same d
+pub falls_apart : (p : Program) (order : Order) → IsOrder p order → (start one two : Stage p) → HaveSameColumns p one.basis two.basis → Falls p order start one two → ⊥
+falls_apart p order ordered start one two same (inl (s, f)) = short_alike p one two same s f
+falls_apart p order ordered start one two same (inr (inl (s, f, r))) = rises_apart p order ordered one two same r
+falls_apart p order ordered start one two same (inr (inr (s, f, d))) = drops_apart p start one two same d
 
-all_fall : (p : Program) (start : Stage p) (last : ℕ) (stage : ℕ → Stage p) → AreFalling p start last stage → (i j : ℕ) → i < j → j ≤ last → Falls p start (stage i) (stage j)
-all_fall p start last stage falling i zero h q = absurd (omega arith)
-all_fall p start last stage falling i (suc j) h q = ⊎_elim (λ (b : i < j). falls_trans p start (stage i) (stage j) (stage (suc j)) (all_fall p start last stage falling i j b (omega arith)) (falling j (omega arith))) (λ (b : j ≤ i). let e : i ≡ j = omega arith in rw e (falling j (omega arith))) (side i j)
+all_fall : (p : Program) (order : Order) → IsOrder p order → (start : Stage p) (last : ℕ) (stage : ℕ → Stage p) → AreFalling p order start last stage → (i j : ℕ) → i < j → j ≤ last → Falls p order start (stage i) (stage j)
+all_fall p order ordered start last stage falling i zero h q = absurd (omega arith)
+all_fall p order ordered start last stage falling i (suc j) h q = ⊎_elim (λ (b : i < j). falls_trans p order ordered start (stage i) (stage j) (stage (suc j)) (all_fall p order ordered start last stage falling i j b (omega arith)) (falling j (omega arith))) (λ (b : j ≤ i). let e : i ≡ j = omega arith in rw e (falling j (omega arith))) (side i j)
 
 -- of stages that fall, no two have the same columns
-pub no_two : (p : Program) (start : Stage p) (last : ℕ) (stage : ℕ → Stage p) → AreFalling p start last stage → (i j : ℕ) → i < j → j ≤ last → HaveSameColumns p (stage i).basis (stage j).basis → ⊥
-no_two p start last stage falling i j h q same =
-    falls_apart p start (stage i) (stage j) same (all_fall p start last stage falling i j h q)
+pub no_two : (p : Program) (order : Order) → IsOrder p order → (start : Stage p) (last : ℕ) (stage : ℕ → Stage p) → AreFalling p order start last stage → (i j : ℕ) → i < j → j ≤ last → HaveSameColumns p (stage i).basis (stage j).basis → ⊥
+no_two p order ordered start last stage falling i j h q same =
+    falls_apart p order ordered start (stage i) (stage j) same (all_fall p order ordered start last stage falling i j h q)
 
 -- a run by the rules
-module _ (p : Program) (turn last : ℕ) (stage : ℕ → Stage p) (run : IsRun p turn last stage) where
-  rays : (n : ℕ) → n ≤ last → n ≤ turn → AreDirectionsPositive p (stage n).basis (stage n).form
-  rays zero h q = positive_at_slacks p (stage 0).basis (stage 0).form run.slacks
-  rays (suc n) h q = next (rays n (omega arith) (omega arith)) (run.duals n (omega arith) (omega arith))
+module _ (p : Program) (order : Order) (turn last : ℕ) (stage : ℕ → Stage p) (run : IsRun p order turn last stage) where
+  -- the directions stay positive
+  pub directions_to : (n : ℕ) → n ≤ last → n ≤ turn → AreDirectionsPositive p order (stage n).basis (stage n).form
+  directions_to zero h q = run.positive
+  directions_to (suc n) h q = next (directions_to n (omega arith) (omega arith)) (run.duals n (omega arith) (omega arith))
     where
-      next : AreDirectionsPositive p (stage n).basis (stage n).form → IsDualStep p (stage n) (stage (suc n)) → AreDirectionsPositive p (stage (suc n)).basis (stage (suc n)).form
+      next : AreDirectionsPositive p order (stage n).basis (stage n).form → IsDualStep p order (stage n) (stage (suc n)) → AreDirectionsPositive p order (stage (suc n)).basis (stage (suc n)).form
       next before (row, col, due, exchange) =
-          dual_keeps p (stage n).basis (stage n).form (stage n).basic before row col due (stage (suc n)).basis exchange (stage (suc n)).form (stage (suc n)).basic
+          dual_keeps p order run.ordered (stage n).basis (stage n).form (stage n).basic before row col due (stage (suc n)).basis exchange (stage (suc n)).form (stage (suc n)).basic
 
   vectors : (n : ℕ) → turn + n ≤ last → AreVectorsPositive p (stage turn).basis (stage (turn + n)).form
   vectors zero h = let e : turn + 0 ≡ turn = omega arith in rw e (positive_at_start p (stage turn).basis (stage turn).form (stage turn).basic (run.feasible (omega arith)))
@@ -130,23 +133,23 @@ module _ (p : Program) (turn last : ℕ) (stage : ℕ → Stage p) (run : IsRun 
   pub feasible_from : (n : ℕ) → turn ≤ n → n ≤ last → IsFeasibleForm p (stage n).form
   feasible_from n h q = feasible_if p (stage turn).basis (stage n).form (positive_from n h q)
 
-  dual_falls : (n : ℕ) → n < last → n < turn → Falls p (stage turn) (stage n) (stage (suc n))
+  dual_falls : (n : ℕ) → n < last → n < turn → Falls p order (stage turn) (stage n) (stage (suc n))
   dual_falls n h q = by (run.duals n h q)
     where
-      by : IsDualStep p (stage n) (stage (suc n)) → Falls p (stage turn) (stage n) (stage (suc n))
+      by : IsDualStep p order (stage n) (stage (suc n)) → Falls p order (stage turn) (stage n) (stage (suc n))
       by (row, col, due, exchange) = ⊎_elim (λ (s : IsShort p (stage (suc n)).form). inr (inl ((row, due.below, due.right), s, rise (solution p (stage n).basis (stage n).form (stage n).basic)))) (λ (f : IsFeasibleForm p (stage (suc n)).form). inl ((row, due.below, due.right), f)) (short_or_feasible p (stage (suc n)).form)
         where
-          rise : (x : ℕ → ℤ) × (d : ℤ) × IsBasicSolution p (stage n).basis (stage n).form x d → Rises p (stage n).basis (stage n).form (stage (suc n)).basis (stage (suc n)).form
+          rise : (x : ℕ → ℤ) × (d : ℤ) × IsBasicSolution p (stage n).basis (stage n).form x d → Rises p order (stage n).basis (stage n).form (stage (suc n)).basis (stage (suc n)).form
           rise (x, d, at) =
-              dual_rises p (stage n).basis (stage n).form (stage n).basic (rays n (omega arith) (omega arith)) row col due (stage (suc n)).basis exchange (stage (suc n)).form (stage (suc n)).basic x d at
+              dual_rises p order run.ordered (stage n).basis (stage n).form (stage n).basic (directions_to n (omega arith) (omega arith)) row col due (stage (suc n)).basis exchange (stage (suc n)).form (stage (suc n)).basic x d at
 
-  primal_falls : (n : ℕ) → n < last → turn ≤ n → Falls p (stage turn) (stage n) (stage (suc n))
+  primal_falls : (n : ℕ) → n < last → turn ≤ n → Falls p order (stage turn) (stage n) (stage (suc n))
   primal_falls n h q = by (run.primals n h q)
     where
-      by : IsPrimalStep p (stage turn) (stage n) (stage (suc n)) → Falls p (stage turn) (stage n) (stage (suc n))
+      by : IsPrimalStep p (stage turn) (stage n) (stage (suc n)) → Falls p order (stage turn) (stage n) (stage (suc n))
       by (row, col, due, exchange) = inr (inr (feasible_if p (stage turn).basis (stage n).form (positive_from n q (omega arith)), feasible_if p (stage turn).basis (stage (suc n)).form (positive_from (suc n) (omega arith) (omega arith)), primal_drops p (stage turn) (stage n).basis (stage n).form (stage n).basic (positive_from n q (omega arith)) row col due (stage (suc n)).basis exchange (stage (suc n)).form (stage (suc n)).basic))
 
-  pub run_falls : AreFalling p (stage turn) last stage
+  pub run_falls : AreFalling p order (stage turn) last stage
   run_falls n h = ⊎_elim (λ (b : n < turn). dual_falls n h b) (λ (b : turn ≤ n). primal_falls n h b) (side n turn)
 
   bases : (n : ℕ) → n ≤ last → IsBasis (value_column p) p.rows (stage n).basis
@@ -155,7 +158,7 @@ module _ (p : Program) (turn last : ℕ) (stage : ℕ → Stage p) (run : IsRun 
   -- no basis comes twice in a run
   pub run_apart : (i j : ℕ) → i < j → j ≤ last → IsOtherBasis p.rows (stage i).basis (stage j).basis
   run_apart i j h q same =
-      no_two p (stage turn) last stage run_falls i j h q (same_columns p (stage i) (stage j) same)
+      no_two p order run.ordered (stage turn) last stage run_falls i j h q (same_columns p (stage i) (stage j) same)
 
   -- so its pivots are few
   pub few_in_stages : last < choose (value_column p) p.rows

@@ -5,9 +5,8 @@ use Rattle.std.proofs.lemmas.Bool.{cases_eq}
 use Rattle.zr_base.proofs.Ring.{spread}
 use Rattle.zr_base.proofs.Divisors.{cancel, mul_positive}
 use Rattle.zr_basis.specs.Programs.{Program}
-use Rattle.zr_basis.specs.BasicForms.{value_column, right_column, IsBasicForm, IsBasicSolution, IsBasicDirection}
+use Rattle.zr_basis.specs.BasicForms.{value_column, right_column, IsFree, IsBasicForm, IsBasicSolution, IsBasicDirection}
 use Rattle.zr_basis.proofs.Among.{HaveSameColumns}
-use Rattle.zr_basis.specs.Dual.{IsFree}
 use Rattle.zr_basis.proofs.Signs.{side}
 use Rattle.zr_basis.proofs.Unique.{in_proportion}
 

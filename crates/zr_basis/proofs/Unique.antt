@@ -15,7 +15,7 @@ use Rattle.zr_basis.proofs.Signs.{side, sign, above_apart, zero_beside, times_ze
 step : (s t u x y c a b : ℤ) → s ≡ a *ℤ t -ℤ b *ℤ u → s +ℤ (a *ℤ x -ℤ b *ℤ y) *ℤ c ≡ a *ℤ (t +ℤ x *ℤ c) -ℤ b *ℤ (u +ℤ y *ℤ c)
 step s t u x y c a b e = simp spread (omega (arith, ints, e))
 
-mixed_sum : (n : ℕ) (u v c : ℕ → ℤ) (a b : ℤ) → sum_to n (λ r. (a *ℤ u r -ℤ b *ℤ v r) *ℤ c r) ≡ a *ℤ sum_to n (λ r. u r *ℤ c r) -ℤ b *ℤ sum_to n (λ r. v r *ℤ c r)
+pub mixed_sum : (n : ℕ) (u v c : ℕ → ℤ) (a b : ℤ) → sum_to n (λ r. (a *ℤ u r -ℤ b *ℤ v r) *ℤ c r) ≡ a *ℤ sum_to n (λ r. u r *ℤ c r) -ℤ b *ℤ sum_to n (λ r. v r *ℤ c r)
 mixed_sum zero u v c a b = omega (arith, ints)
 mixed_sum (suc n) u v c a b =
     step (sum_to n (λ r. (a *ℤ u r -ℤ b *ℤ v r) *ℤ c r)) (sum_to n (λ r. u r *ℤ c r)) (sum_to n (λ r. v r *ℤ c r)) (u n) (v n) (c n) a b (mixed_sum n u v c a b)
@@ -111,7 +111,7 @@ less_nothing : (a b x y : ℤ) → y ≡ pos 0 → a *ℤ x -ℤ b *ℤ y ≡ a 
 less_nothing a b x y h = let t = ap (λ z. b *ℤ z) h in let u = times_zero b in omega (arith, ints, t, u)
 
 -- f, less so much of g that it is zero at s
-abbrev cleared : (ℕ → ℤ) → ℕ → (ℕ → ℤ) → ℕ → ℤ
+abbrev pub cleared : (ℕ → ℤ) → ℕ → (ℕ → ℤ) → ℕ → ℤ
 cleared g s f k = g s *ℤ f k -ℤ f s *ℤ g k
 
 module _ (p : Program) where

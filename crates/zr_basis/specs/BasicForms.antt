@@ -1,6 +1,6 @@
 -- The basic form of a basis, its basic solution, and its basic directions.
 -- Row r has the slack column `columns + r`; the value has the column after the slacks, and the right sides come last.
-use Rattle.std.specs.Prelude.{◌≡◌, ◌≢◌, ℕ, ◌+◌, ◌<◌, ◌≤◌, ℤ, pos, ◌-ℤ◌, ◌*ℤ◌, ◌<ℤ◌, neg_ℤ, unsigned_abs}
+use Rattle.std.specs.Prelude.{◌≡◌, ◌≢◌, ℕ, ◌+◌, ◌<◌, ◌≤◌, ℤ, pos, ◌+ℤ◌, ◌-ℤ◌, ◌*ℤ◌, ◌<ℤ◌, neg_ℤ, unsigned_abs}
 use Rattle.std.specs.Int.{◌∣◌}
 use Rattle.zr_base.specs.Sums.{sum_to}
 use Rattle.zr_basis.specs.Programs.{Program}
@@ -16,6 +16,15 @@ pub record CombinesEquations (p : Program) (e : ℕ → ℤ) : Type 0 where
   pub columns : (j : ℕ) → j < p.columns → e j ≡ sum_to p.rows (λ r. e (p.columns + r) *ℤ p.coef r j) -ℤ e (value_column p) *ℤ p.aim j
   pub right : e (right_column p) ≡ sum_to p.rows (λ r. e (p.columns + r) *ℤ p.le r)
 
+-- e holds where the columns have the values `x j / d`
+abbrev pub HoldsAt : Program → (ℕ → ℤ) → (ℕ → ℤ) → ℤ → Type 0
+HoldsAt p e x d = sum_to (value_column p) (λ j. e j *ℤ x j) ≡ e (right_column p) *ℤ d
+
+-- each row's slack is what its left side leaves
+abbrev pub AreSlacks : Program → (ℕ → ℤ) → ℤ → Type 0
+AreSlacks p x d =
+    (r : ℕ) → r < p.rows → sum_to p.columns (λ j. p.coef r j *ℤ x j) +ℤ x (p.columns + r) ≡ p.le r *ℤ d
+
 -- no divisor above 1 is common to the first `width` numbers
 abbrev pub IsPrimitive : ℕ → (ℕ → ℤ) → Type 0
 IsPrimitive width e = (d : ℕ) → ((j : ℕ) → j < width → d ∣ unsigned_abs (e j)) → d ≡ 1
@@ -28,6 +37,10 @@ pub record IsBasicForm (p : Program) (basis : ℕ → ℕ) (form : ℕ → ℕ �
   pub own : (i : ℕ) → i ≤ p.rows → (pos 0) <ℤ form i (basis i)
   pub other : (i k : ℕ) → i ≤ p.rows → k ≤ p.rows → i ≢ k → form i (basis k) ≡ pos 0
   pub primitive : (i : ℕ) → i ≤ p.rows → IsPrimitive (p.columns + p.rows + 2) (form i)
+
+-- the column isn't in the basis
+abbrev pub IsFree : Program → (ℕ → ℕ) → ℕ → Type 0
+IsFree p basis col = (col < value_column p) × ((i : ℕ) → i < p.rows → col ≢ basis i)
 
 -- the columns have the values `x j / d`: zero off the basis, and what the equations say on it
 pub record IsBasicSolution (p : Program) (basis : ℕ → ℕ) (form : ℕ → ℕ → ℤ) (x : ℕ → ℤ) (d : ℤ) : Type 0 where

@@ -1,5 +1,6 @@
 pub mod Programs
 pub mod BasicForms
+pub mod Orders
 pub mod Bases
 pub mod Choices
 pub mod Stages

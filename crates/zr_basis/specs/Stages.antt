@@ -1,7 +1,7 @@
 -- What a basis determines, and the two phases of the method.
 use Rattle.std.specs.Prelude.{◌≡◌, ℕ, ◌<◌, ◌≤◌, ℤ, pos, ◌<ℤ◌, ◌≤ℤ◌}
 use Rattle.zr_basis.specs.Programs.{Program}
-use Rattle.zr_basis.specs.BasicForms.{right_column, CombinesEquations, IsBasicForm}
+use Rattle.zr_basis.specs.BasicForms.{right_column, value_column, CombinesEquations, IsBasicForm}
 
 -- a combination of the program's equations that is zero at the columns of the basis is zero at each column
 abbrev pub Determines : Program → (ℕ → ℕ) → Type 0
@@ -22,6 +22,10 @@ pub record Stage (p : Program) : Type 0 where
 -- a right side is below zero
 abbrev pub IsShort : Program → (ℕ → ℕ → ℤ) → Type 0
 IsShort p form = (i : ℕ) × (i < p.rows) × (form i (right_column p) <ℤ (pos 0))
+
+-- the value falls along no column
+abbrev pub IsDualFeasibleForm : Program → (ℕ → ℕ → ℤ) → Type 0
+IsDualFeasibleForm p form = (j : ℕ) → j < value_column p → form p.rows j ≤ℤ (pos 0)
 
 -- no right side is below zero
 abbrev pub IsFeasibleForm : Program → (ℕ → ℕ → ℤ) → Type 0

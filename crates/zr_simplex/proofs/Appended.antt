@@ -1,32 +1,18 @@
 -- A tableau with a row appended is the tableau of the program with that row.
-use Rattle.std.proofs.Common.{◌≡◌, ℕ, suc, ◌+◌, ◌<◌, ◌≤◌, arith, sym, ap, subst, ◌∙◌, ℤ, pos, ◌+ℤ◌, ◌*ℤ◌, [], ◌∷◌, length, slice_index, length-append, length-set, get_or-set_same}
+use Rattle.std.proofs.Common.{◌≡◌, ℕ, suc, ◌+◌, ◌<◌, ◌≤◌, arith, ap, subst, ◌∙◌, ⊎_elim, ℤ, pos, [], ◌∷◌, ◌++◌, length, slice_index, length-append, length-set, get_or-set_same}
 use Rattle.std.proofs.lemmas.Int.{ints}
 use Rattle.std.proofs.lemmas.List.{get_or_append_left, get_or_push}
-use Rattle.zr_base.specs.Sums.{sum_to}
-use Rattle.zr_base.proofs.Dense.{sum_to_same}
 use Rattle.zr_basis.specs.Programs.{Program}
-use Rattle.zr_basis.specs.BasicForms.{right_column, CombinesEquations}
-use Rattle.zr_simplex.specs.Dues.{HoldsAt, IsTableau}
+use Rattle.zr_basis.specs.BasicForms.{CombinesEquations}
+use Rattle.zr_basis.specs.Stages.{IsDualFeasibleForm}
+use Rattle.zr_basis.proofs.Signs.{side}
+use Rattle.zr_simplex.specs.Dues.{IsTableau}
 use Rattle.zr_simplex.specs.RowSteps.{IsQuotient}
 use Rattle.zr_simplex.specs.Tableaus.{Equations, basis_of, form_of}
 use Rattle.zr_simplex.specs.Appends.{IsExpressed, IsWithRow, extended, first_rows}
 use Rattle.zr_simplex.proofs.Divide.{zero_if}
-use Rattle.zr_simplex.proofs.Enlarged.{Extends, enlarged, enlarged_complete, extends}
-use Rattle.zr_simplex.proofs.Pivots.{held, mixture_combination, mixture_sum, quotient_mixture}
-
-module _ (q : Program) where
-  -- equal numbers hold alike
-  holds_same : (e f : ℕ → ℤ) → ((j : ℕ) → j < q.columns + q.rows + 2 → e j ≡ f j) → (x : ℕ → ℤ) (d : ℤ) → HoldsAt q e x d → HoldsAt q f x d
-  holds_same e f same x d at =
-      sum_to_same (q.columns + q.rows) (λ j. f j *ℤ x j) (λ j. e j *ℤ x j) (λ j h. ap (λ z. z *ℤ x j) (sym (same j (omega (arith, h))))) ∙ at ∙ ap (λ z. z *ℤ d) (same (right_column q) (omega arith))
-
-  -- where a quotient holds, so does what it was made of
-  holds_quotient : (e made : ℕ → ℤ) → IsQuotient (q.columns + q.rows + 2) e made → (x : ℕ → ℤ) (d : ℤ) → HoldsAt q made x d → HoldsAt q e x d
-  holds_quotient e made quotient x d at =
-      let width = q.columns + q.rows in
-      let m = quotient_mixture (width + 2) e made quotient in
-      let s = mixture_sum width e e made x (pos 1) (pos 0) quotient.over (λ j h. m.numbers j (omega arith)) in
-      held (sum_to width (λ j. made j *ℤ x j)) (sum_to width (λ j. e j *ℤ x j)) (pos 0) (pos 1) (pos 0) quotient.over (made (right_column q)) (e (right_column q)) (pos 0) d (λ e. cc) (s ∙ omega (arith, ints)) (m.numbers (right_column q) (omega arith) ∙ omega (arith, ints)) at (omega (arith, ints))
+use Rattle.zr_simplex.proofs.Enlarged.{Extends, enlarged, extends}
+use Rattle.zr_simplex.proofs.Pivots.{mixture_combination, quotient_mixture}
 
 module _ (q : Program) (m : ℕ) (more : q.rows ≡ suc m) (old new : Equations) (u : ℕ → ℤ) (kept : IsTableau (first_rows q m) old) (expressed : IsExpressed q m m (basis_of old) (form_of old) u) (made : IsWithRow m q.columns (q.columns + m) old new u) where
   abbrev whole : ℕ → ℤ
@@ -78,10 +64,6 @@ module _ (q : Program) (m : ℕ) (more : q.rows ≡ suc m) (old new : Equations)
   no_value =
       zero_at (q.columns + m + 1) (omega arith) ((extends (q.columns + m) u (u (q.columns + m + 2))).value ∙ expressed.value)
 
-  recovers : (x : ℕ → ℤ) (d : ℤ) → ((i : ℕ) → i < m → HoldsAt q (form_of new i) x d) → HoldsAt q (form_of new m) x d → sum_to q.columns (λ j. q.coef m j *ℤ x j) +ℤ x (q.columns + m) ≡ q.le m *ℤ d
-  recovers x d holds at =
-      expressed.recovers x d (λ i h. holds_same q (form_of new i) (extended (q.columns + m) (form_of old i) (pos 0)) (λ j b. made.rows i h j (omega (arith, b, more))) x d (holds i h)) (holds_quotient q whole (form_of new m) quotient x d at)
-
   pub appended : IsTableau q new
   appended = record {
     count = ap length made.basis ∙ length-append old.basis ((q.columns + m + 1) ∷ []) ∙ omega (arith, kept.count, more);
@@ -90,5 +72,12 @@ module _ (q : Program) (m : ℕ) (more : q.rows ≡ suc m) (old new : Equations)
     free_count = ap length made.free ∙ length-set old.free q.columns (q.columns + m + 2) ∙ kept.free_count;
     right = ap (λ f. slice_index f q.columns) made.free ∙ get_or-set_same old.free q.columns (q.columns + m + 2) 0 (omega (arith, kept.free_count)) ∙ omega (arith, more);
     form = enlarged q m more (basis_of old) (basis_of new) (form_of old) (form_of new) kept.form basis_same basis_last rows_extend last_extends combination made.own cleared no_value made.primitive;
-    complete = enlarged_complete q m more (basis_of old) (basis_of new) (form_of old) (form_of new) kept.form basis_same basis_last rows_extend last_extends combination made.own cleared no_value made.primitive kept.complete recovers;
   }
+
+  -- where the value fell along no column, it falls along none now
+  pub appended_dual : IsDualFeasibleForm (first_rows q m) (form_of old) → IsDualFeasibleForm q (form_of new)
+  appended_dual feasible j h =
+      rw more (⊎_elim (λ (b : j < q.columns + m). rw (last_extends.below j b) (feasible j b)) (λ (b : q.columns + m ≤ j). let e : j ≡ q.columns + m = omega (arith, b, h, more) in rw (e, last_extends.here) (omega (arith, ints))) (side j (q.columns + m)))
+
+  pub appended_basis : new.basis ≡ old.basis ++ (q.columns + q.rows) ∷ []
+  appended_basis = let e : q.columns + m + 1 ≡ q.columns + q.rows = omega (arith, more) in made.basis ∙ ap (λ z. old.basis ++ z ∷ []) e

@@ -1,16 +1,14 @@
 -- The equations at the start are a basic form.
-use Rattle.std.proofs.Common.{◌≡◌, ◌≢◌, ℕ, ◌+◌, ◌<◌, ◌≤◌, arith, sym, ap, ◌∙◌, ℤ, pos, neg_ℤ, ◌+ℤ◌, ◌-ℤ◌, ◌*ℤ◌, ⊎_elim}
+use Rattle.std.proofs.Common.{◌≡◌, ◌≢◌, ℕ, ◌+◌, ◌<◌, ◌≤◌, arith, sym, ◌∙◌, ℤ, pos, neg_ℤ, ◌-ℤ◌, ◌*ℤ◌, ⊎_elim}
 use Rattle.std.proofs.Math.Nat.{le_of_dvd, pos_of_dvd_of_pos}
 use Rattle.std.proofs.lemmas.Bool.{cases_eq}
 use Rattle.std.proofs.lemmas.Int.{ints}
 use Rattle.std.specs.Int.{◌∣◌}
 use Rattle.zr_base.specs.Sums.{sum_to}
-use Rattle.zr_base.proofs.Dense.{sum_to_same}
 use Rattle.zr_basis.specs.Programs.{Program}
 use Rattle.zr_basis.specs.BasicForms.{CombinesEquations, IsPrimitive, IsBasicForm}
-use Rattle.zr_simplex.specs.Dues.{HoldsAt, IsComplete}
 use Rattle.zr_simplex.specs.RowSteps.{IsFirstEquation}
-use Rattle.zr_simplex.proofs.Sums.{sum_to-append, sum_to-all_zero, sum_to-single}
+use Rattle.zr_basis.proofs.Sums.{sum_to-all_zero, sum_to-single}
 
 one_if : (d : ℕ) → d ∣ 1 → d ≡ 1
 one_if d h =
@@ -52,15 +50,6 @@ module _ (p : Program) (i : ℕ) (h : i < p.rows) (e : ℕ → ℤ) (start : IsF
     right = start.right ∙ sym (own_slack p.le);
   }
 
-  pub row_slack : (x : ℕ → ℤ) (d : ℤ) → HoldsAt p e x d → sum_to p.columns (λ j. p.coef i j *ℤ x j) +ℤ x (p.columns + i) ≡ p.le i *ℤ d
-  row_slack x d at =
-      let n = p.columns in
-      let split = sum_to-append n p.rows (λ j. e j *ℤ x j) in
-      let coefs = sum_to_same n (λ j. e j *ℤ x j) (λ j. p.coef i j *ℤ x j) (λ j q. ap (λ z. z *ℤ x j) (start.coefs j q)) in
-      let slack = own_slack (λ k. x (n + k)) in
-      let right = ap (λ z. z *ℤ d) start.right in
-      omega (arith, ints, split, coefs, slack, at, right)
-
 module _ (p : Program) (form : ℕ → ℕ → ℤ) (start : (i : ℕ) → i < p.rows → IsFirstEquation p.columns (p.columns + p.rows) (p.columns + i) (p.coef i) (p.le i) (form i)) (last : IsFirstEquation p.columns (p.columns + p.rows) (p.columns + p.rows) (λ j. neg_ℤ (p.aim j)) (pos 0) (form p.rows)) where
   no_slack : (a : ℕ → ℤ) → sum_to p.rows (λ r. form p.rows (p.columns + r) *ℤ a r) ≡ pos 0
   no_slack a =
@@ -87,6 +76,3 @@ module _ (p : Program) (form : ℕ → ℕ → ℤ) (start : (i : ℕ) → i < p
     other = λ i k h q apart. rw (is k q) (zero_at i k h q apart);
     primitive = λ i h. primitive_by_one (p.columns + p.rows + 2) (p.columns + i) (form i) (omega arith) (one_at i h);
   }
-
-  pub start_complete : IsComplete p form
-  start_complete x d holds r h = row_slack p r h (form r) (start r h) x d (holds r h)

@@ -14,11 +14,11 @@ use Rattle.zr_lin.specs.Ineqs.{IneqHolds, IneqOf, dense, ineq_of, row_at}
 use Rattle.zr_simplex.specs.declared.program.Lp.{Lp}
 use Rattle.zr_basis.specs.Programs.{aim_at}
 use Rattle.zr_simplex.specs.Programs.{program_of, lp_rows, IsLp, numbers}
-use Rattle.zr_basis.specs.BasicForms.{value_column, right_column}
-use Rattle.zr_simplex.specs.Dues.{AreSlacks, IsTableau}
+use Rattle.zr_basis.specs.BasicForms.{value_column, right_column, AreSlacks}
+use Rattle.zr_simplex.specs.Dues.{IsTableau}
 use Rattle.zr_simplex.specs.Tableaus.{Equations, basis_of, form_of}
 use Rattle.zr_simplex.specs.Answers.{weighed, signed, IsLow, AreListed, IsFeasiblePoint, IsBest, IsEmpty, IsUnbounded, IsBasicPoint, IsBasicRay, AreOf}
-use Rattle.zr_simplex.proofs.Forms.{solution_slacks, solution_value, solution_nonnegative, direction_slacks, direction_value, direction_nonnegative, free_if}
+use Rattle.zr_basis.proofs.Values.{solution_slacks, solution_value, solution_nonnegative, direction_slacks, direction_value, direction_nonnegative, free_if}
 use Rattle.zr_simplex.proofs.Low.{opposite_signs}
 
 neg_sum : (n : ℕ) (e a : ℕ → ℤ) → sum_to n (λ r. neg_ℤ (e r) *ℤ a r) ≡ neg_ℤ (sum_to n (λ r. e r *ℤ a r))
@@ -83,7 +83,7 @@ module _ (lp : Lp) (good : IsLp lp) where
         let a = form_of t k v in
         let b = form_of t k (lp.columns + r) in
         let second : b ≢ pos 0 = apart_signed negated b (λ z. listed (of.multipliers r row ∙ z)) in
-        of.extras v column ∙ zero_or a b negated (sign v (omega (arith, column))) (sign (lp.columns + r) (omega (arith, row))) (λ first. opposite_signs (program_of lp) (basis_of t) (form_of t) kept.form kept.complete r v row column low.0 low.1 k inside first second)
+        of.extras v column ∙ zero_or a b negated (sign v (omega (arith, column))) (sign (lp.columns + r) (omega (arith, row))) (λ first. opposite_signs (program_of lp) (basis_of t) (form_of t) kept.form r v row column low.0 low.1 k inside first second)
       where
         zero_or : (a b : ℤ) (negated : Bool) → (pos 0) ≤ℤ signed negated a → (pos 0) ≤ℤ signed negated b → (a ≢ pos 0 → a ≡ neg_ℤ b) → signed negated a ≡ pos 0
         zero_or (pos zero) b true p q h = omega (arith, ints)
@@ -95,8 +95,8 @@ module _ (lp : Lp) (good : IsLp lp) where
 
     pub feasible : (point : PointOf) → IsBasicPoint (program_of lp) (basis_of t) (form_of t) point → ((i : ℕ) → i < length lp.rows.items → (pos 0) ≤ℤ form_of t i (right_column (program_of lp))) → IsFeasiblePoint lp point
     feasible point of rights =
-        let slacks = solution_slacks (program_of lp) (basis_of t) (form_of t) kept.form kept.complete of.all point.den of.solution in
-        let up = solution_nonnegative (program_of lp) (basis_of t) (form_of t) kept.form kept.complete of.all point.den of.solution rights in
+        let slacks = solution_slacks (program_of lp) (basis_of t) (form_of t) kept.form of.all point.den of.solution in
+        let up = solution_nonnegative (program_of lp) (basis_of t) (form_of t) kept.form of.all point.den of.solution rights in
         record {
           len = of.len;
           nonnegative = λ j h. rw (of.same j h) (up j (omega (arith, h)));
@@ -129,7 +129,7 @@ module _ (lp : Lp) (good : IsLp lp) where
         let e = form_of t m in
         let c = kept.form.combination m (omega arith) in
         let own : (pos 0) <ℤ e (lp.columns + m) = rw (← kept.form.value) (kept.form.own m (omega arith)) in
-        let value = solution_value (program_of lp) (basis_of t) (form_of t) kept.form kept.complete point_of.all point.den point_of.solution in
+        let value = solution_value (program_of lp) (basis_of t) (form_of t) kept.form point_of.all point.den point_of.solution in
         let aim = aim_same point_of.all (num_of point) point_of.same in
         let right : neg_ℤ (weighed lp mult).le ≡ e (right_column (program_of lp)) = (let w = weighed_negated e mult extra ascends of (program_of lp).le in let r = c.right in omega (arith, ints, w, r)) in
         record {
@@ -145,12 +145,12 @@ module _ (lp : Lp) (good : IsLp lp) where
     pub unbounded : (col : ℕ) (point : PointOf) (ray : List ℤ) → col < value_column (program_of lp) → IsBasicPoint (program_of lp) (basis_of t) (form_of t) point → IsBasicRay (program_of lp) (basis_of t) (form_of t) col ray → ((i : ℕ) → i < length lp.rows.items → (pos 0) ≤ℤ form_of t i (right_column (program_of lp))) → (pos 0) <ℤ form_of t (length lp.rows.items) col → ((i : ℕ) → i < length lp.rows.items → form_of t i col ≤ℤ (pos 0)) → IsUnbounded lp point ray
     unbounded col point ray below point_of of rights above under =
         let free = free_if (program_of lp) (basis_of t) (form_of t) kept.form col (λ z. omega (arith, ints, above, z)) in
-        let slacks = direction_slacks (program_of lp) (basis_of t) (form_of t) kept.form kept.complete col free below of.all of.raise of.direction in
-        let up = direction_nonnegative (program_of lp) (basis_of t) (form_of t) kept.form kept.complete col free below of.all of.raise of.direction under in
+        let slacks = direction_slacks (program_of lp) (basis_of t) (form_of t) kept.form col free below of.all of.raise of.direction in
+        let up = direction_nonnegative (program_of lp) (basis_of t) (form_of t) kept.form col free below of.all of.raise of.direction under in
         record {
           feasible = feasible point point_of rights;
           len = of.len;
           nonnegative = λ j h. rw (of.same j h) (up j (omega (arith, h)));
           rows = rows_hold of.all (pos 0) (numbers ray) slacks up of.same;
-          falls = rw (aim_same of.all (numbers ray) of.same) (direction_value (program_of lp) (basis_of t) (form_of t) kept.form kept.complete col free below of.all of.raise of.direction above);
+          falls = rw (aim_same of.all (numbers ray) of.same) (direction_value (program_of lp) (basis_of t) (form_of t) kept.form col free below of.all of.raise of.direction above);
         }

@@ -7,12 +7,11 @@ use Rattle.zr_base.specs.Sums.{sum_to}
 use Rattle.zr_base.proofs.Dense.{sum_to_same}
 use Rattle.zr_base.proofs.Divisors.{mul_positive}
 use Rattle.zr_basis.specs.Programs.{Program}
-use Rattle.zr_basis.specs.BasicForms.{right_column, CombinesEquations, IsBasicForm, IsPrimitive}
-use Rattle.zr_simplex.specs.Dues.{AreSlacks, HoldsAt, IsComplete}
+use Rattle.zr_basis.specs.BasicForms.{CombinesEquations, IsBasicForm, IsPrimitive}
 use Rattle.zr_simplex.specs.RowSteps.{IsMixture, IsFirstEquation}
 use Rattle.zr_simplex.specs.Appends.{IsExpressed, IsTakenOff, extended, first_rows}
-use Rattle.zr_simplex.proofs.Begin.{row_combination, row_slack}
-use Rattle.zr_simplex.proofs.Pivots.{held, mixture_combination, mixture_sum}
+use Rattle.zr_simplex.proofs.Begin.{row_combination}
+use Rattle.zr_simplex.proofs.Pivots.{mixture_combination}
 
 -- made is e with the number `own` at the slack column that has come in
 pub record Extends (slack : ℕ) (e : ℕ → ℤ) (own : ℤ) (made : ℕ → ℤ) : Type 0 where
@@ -77,21 +76,6 @@ module _ (q : Program) (m : ℕ) (more : q.rows ≡ suc m) where
         right = combined_right (made (n + suc m + 1)) (e (n + m + 1)) (sum_to m (λ r. made (n + r) *ℤ q.le r)) (sum_to m (λ r. e (n + r) *ℤ q.le r)) (made (n + m)) (q.le m) (ap made at_right ∙ ext.right) (same q.le) ext.here comb.right;
       })
 
-  zero_slack : (e made x : ℕ → ℤ) → Extends (q.columns + m) e (pos 0) made → made (q.columns + m) *ℤ x (q.columns + m) ≡ pos 0
-  zero_slack e made x ext = ap (λ z. z *ℤ x (q.columns + m)) ext.here ∙ omega (arith, ints)
-
-  -- it holds where the other does
-  pub holds_old : (e made : ℕ → ℤ) → Extends (q.columns + m) e (pos 0) made → (x : ℕ → ℤ) (d : ℤ) → HoldsAt q made x d → HoldsAt (first_rows q m) e x d
-  holds_old e made ext x d at =
-      let n = q.columns in
-      let s = sum_to_same (n + m) (λ j. made j *ℤ x j) (λ j. e j *ℤ x j) (λ j h. ap (λ z. z *ℤ x j) (ext.below j h)) in
-      let z = zero_slack e made x ext in
-      let long : n + suc m ≡ suc (n + m) = omega arith in
-      let whole = rw (more, long) at at in
-      let end : suc (n + m) + 1 ≡ n + m + 2 = omega arith in
-      let right = ap (λ y. y *ℤ d) (ap made end ∙ ext.right) in
-      omega (arith, ints, s, z, whole, right)
-
   module _ (basis next : ℕ → ℕ) (form made : ℕ → ℕ → ℤ) (basic : IsBasicForm (first_rows q m) basis form) (same : (i : ℕ) → i ≤ m → next i ≡ basis i) (last : next (suc m) ≡ q.columns + m + 1) (rows : (i : ℕ) → i < m → Extends (q.columns + m) (form i) (pos 0) (made i)) (value : Extends (q.columns + m) (form m) (pos 0) (made (suc m))) (combination : CombinesEquations q (made m)) (own : (pos 0) <ℤ made m (q.columns + m)) (cleared : (k : ℕ) → k < m → made m (basis k) ≡ pos 0) (no_value : made m (q.columns + m + 1) ≡ pos 0) (primitive : IsPrimitive (q.columns + m + 3) (made m)) where
     in_old : (k : ℕ) → k < m → basis k < q.columns + m
     in_old k h = basic.columns k h
@@ -137,11 +121,6 @@ module _ (q : Program) (m : ℕ) (more : q.rows ≡ suc m) where
           primitive = λ i h. rw long (all_primitive i (omega (arith, h, more)));
         }
 
-    pub enlarged_complete : IsComplete (first_rows q m) form → ((x : ℕ → ℤ) (d : ℤ) → ((i : ℕ) → i < m → HoldsAt q (made i) x d) → HoldsAt q (made m) x d → sum_to q.columns (λ j. q.coef m j *ℤ x j) +ℤ x (q.columns + m) ≡ q.le m *ℤ d) → IsComplete q made
-    enlarged_complete complete recovers x d holds r h =
-        let old : AreSlacks (first_rows q m) x d = complete x d (λ i b. holds_old (form i) (made i) (rows i b) x d (holds i (omega (arith, b, more)))) in
-        ⊎_elim (λ (a : r < m). old r a) (λ (a : m ≤ r). let s : r ≡ m = omega (arith, h, more) in rw s (recovers x d (λ i b. holds i (omega (arith, b, more))) (holds m (omega (arith, more))))) (cases_lt r m)
-
   -- the row itself over the columns of the program with it
   pub raw_start : (u : ℕ → ℤ) → IsFirstEquation q.columns (q.columns + m) (q.columns + m + 2) (q.coef m) (q.le m) u → IsFirstEquation q.columns (q.columns + q.rows) (q.columns + m) (q.coef m) (q.le m) (extended (q.columns + m) u (u (q.columns + m + 2)))
   raw_start u start =
@@ -166,7 +145,6 @@ module _ (q : Program) (m : ℕ) (more : q.rows ≡ suc m) where
       own = rw one (omega (arith, ints));
       value = value;
       cleared = λ k h. absurd (omega arith);
-      recovers = λ x d holds at. row_slack q m in_rows (extended (q.columns + m) u (u (q.columns + m + 2))) start x d at;
     }
 
   -- one column more is cleared
@@ -197,13 +175,6 @@ module _ (q : Program) (m : ℕ) (more : q.rows ≡ suc m) where
       numbers = λ j h. step j (omega (arith, h, more));
     }
 
-    holds_back : (x : ℕ → ℤ) (d : ℤ) → HoldsAt q off x d → HoldsAt q after x d → HoldsAt q before x d
-    unfolding mixture
-    holds_back x d at_off at_after =
-        let width = q.columns + q.rows in
-        let s = mixture_sum width before off after x taken.by taken.less (pos 1) (λ j h. mixture.numbers j (omega arith)) in
-        held (sum_to width (λ j. after j *ℤ x j)) (sum_to width (λ j. before j *ℤ x j)) (sum_to width (λ j. off j *ℤ x j)) taken.by taken.less (pos 1) (after (right_column q)) (before (right_column q)) (off (right_column q)) d mixture.by_apart s (mixture.numbers (right_column q) (omega arith)) at_after at_off
-
     in_width : (k : ℕ) → k < m → basis k < q.columns + m + 2
     in_width k h = let b = basic.columns k h in omega (arith, b)
 
@@ -216,5 +187,4 @@ module _ (q : Program) (m : ℕ) (more : q.rows ≡ suc m) where
       own = rw taken.own (mul_positive taken.by (u (q.columns + m + 2)) taken.above expressed.own);
       value = taken.numbers (q.columns + m) (omega arith) ∙ zero_mix (u (q.columns + m)) (form i (q.columns + m)) expressed.value (ap (form i) (sym basic.value) ∙ basic.other i m (omega arith) (omega arith) (λ e. omega (arith, e, row)));
       cleared = λ k h. ⊎_elim (λ (e : k ≡ i). rw e zero) (λ (a : k ≢ i). taken.numbers (basis k) (in_width k (omega arith)) ∙ zero_mix (u (basis k)) (form i (basis k)) (expressed.cleared k (omega arith)) (basic.other i k (omega arith) (omega arith) (λ e. a (sym e)))) (cases_eq k i);
-      recovers = λ x d holds at. expressed.recovers x d holds (holds_back x d (holds i row) at);
     }

@@ -15,9 +15,6 @@ mod Appending
 mod First
 mod Swaps
 mod Condensed
-mod Sums
-mod Signs
-mod Forms
 mod Pivots
 mod Begin
 mod Lcm
@@ -25,6 +22,7 @@ mod Multiples
 mod Lists
 mod Places
 mod Kept
+mod ValueOrder
 mod Low
 mod Conclude
 mod Turned
@@ -32,3 +30,4 @@ pub mod Quotients
 mod Digits
 mod Going
 mod Stops
+mod Resuming

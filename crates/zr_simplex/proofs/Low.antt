@@ -1,17 +1,15 @@
 -- Of a row `-x v <= le`, the column v and the row's slack aren't both in one equation with one sign.
-use Rattle.std.proofs.Common.{◌≡◌, ◌≢◌, ℕ, zero, suc, ◌+◌, ◌<◌, ◌≤◌, arith, refl, sym, ap, ◌∙◌, ℤ, pos, negsuc, neg_ℤ, ◌*ℤ◌, ◌<ℤ◌, ◌⊎◌, inl, inr, ⊎_elim}
+use Rattle.std.proofs.Common.{◌≡◌, ◌≢◌, ℕ, ◌+◌, ◌<◌, ◌≤◌, arith, sym, ap, ◌∙◌, ℤ, pos, negsuc, neg_ℤ, ◌*ℤ◌, ◌<ℤ◌, ⊎_elim}
 use Rattle.std.proofs.lemmas.Int.{ints}
 use Rattle.std.proofs.lemmas.Bool.{cases_eq}
-use Rattle.zr_base.proofs.Ring.{spread}
-use Rattle.zr_base.proofs.Divisors.{cancel, mul_positive}
+use Rattle.zr_base.proofs.Divisors.{cancel}
 use Rattle.zr_basis.specs.Programs.{Program}
-use Rattle.zr_basis.specs.BasicForms.{value_column, IsBasicForm, IsBasicDirection}
-use Rattle.zr_simplex.specs.Dues.{AreSlacks, IsComplete}
-use Rattle.zr_basis.proofs.Solved.{direction}
-use Rattle.zr_simplex.proofs.Sums.{sum_to-single}
-use Rattle.zr_simplex.proofs.Forms.{direction_slacks, in_basis}
+use Rattle.zr_basis.specs.BasicForms.{value_column, AreSlacks, IsBasicForm, IsBasicDirection}
+use Rattle.zr_basis.proofs.Sums.{sum_to-single}
+use Rattle.zr_basis.proofs.Values.{direction_slacks}
+use Rattle.zr_basis.proofs.Solved.{direction, in_basis}
 
-module _ (p : Program) (basis : ℕ → ℕ) (form : ℕ → ℕ → ℤ) (basic : IsBasicForm p basis form) (complete : IsComplete p form) where
+module _ (p : Program) (basis : ℕ → ℕ) (form : ℕ → ℕ → ℤ) (basic : IsBasicForm p basis form) where
   -- a column off the basis has a basic direction
   record HasDirection (col : ℕ) : Type 0 where
     x : ℕ → ℤ
@@ -62,7 +60,7 @@ module _ (p : Program) (basis : ℕ → ℕ) (form : ℕ → ℕ → ℤ) (basic
               let same : f.0 ≡ k = only_k v f.0 first f.1 f.2 in
               let free = other_free v (p.columns + r) f.0 second f.1 same f.2 differ in
               let way = has_direction (p.columns + r) (omega (arith, row)) free in
-              let slacks = direction_slacks p basis form basic complete (p.columns + r) free (omega (arith, row)) way.x way.d way.direction in
+              let slacks = direction_slacks p basis form basic (p.columns + r) free (omega (arith, row)) way.x way.d way.direction in
               let e : way.x v ≡ way.d = sym (level way.x slacks) ∙ way.direction.raised in
               let on = seen way.x f.0 k v (basis f.0) (p.columns + r) way.d same f.2 (way.direction.on f.0 f.1) in
               opposite (form k v) (form k (p.columns + r)) way.d (way.x v) way.direction.positive on e
@@ -71,7 +69,7 @@ module _ (p : Program) (basis : ℕ → ℕ) (form : ℕ → ℕ → ℤ) (basic
           b_in free g =
               let same : g.0 ≡ k = only_k (p.columns + r) g.0 second g.1 g.2 in
               let way = has_direction v (omega (arith, column)) free in
-              let slacks = direction_slacks p basis form basic complete v free (omega (arith, column)) way.x way.d way.direction in
+              let slacks = direction_slacks p basis form basic v free (omega (arith, column)) way.x way.d way.direction in
               let e : way.x (p.columns + r) ≡ way.d = level way.x slacks ∙ way.direction.raised in
               let on = seen way.x g.0 k (p.columns + r) (basis g.0) v way.d same g.2 (way.direction.on g.0 g.1) in
               let s = opposite (form k (p.columns + r)) (form k v) way.d (way.x (p.columns + r)) way.direction.positive on e in
@@ -80,7 +78,7 @@ module _ (p : Program) (basis : ℕ → ℕ) (form : ℕ → ℕ → ℤ) (basic
           none : ((i : ℕ) → i < p.rows → v ≢ basis i) → ((i : ℕ) → i < p.rows → p.columns + r ≢ basis i) → form k v ≡ neg_ℤ (form k (p.columns + r))
           none free off =
               let way = has_direction v (omega (arith, column)) free in
-              let slacks = direction_slacks p basis form basic complete v free (omega (arith, column)) way.x way.d way.direction in
+              let slacks = direction_slacks p basis form basic v free (omega (arith, column)) way.x way.d way.direction in
               let e : way.x (p.columns + r) ≡ way.d = level way.x slacks ∙ way.direction.raised in
               let z : way.x (p.columns + r) ≡ pos 0 = way.direction.off (p.columns + r) (omega (arith, row)) (λ s. differ (sym s)) off in
               let q = way.direction.positive in

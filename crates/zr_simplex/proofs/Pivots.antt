@@ -7,7 +7,6 @@ use Rattle.zr_base.specs.Sums.{sum_to}
 use Rattle.zr_basis.specs.Programs.{Program}
 use Rattle.zr_simplex.proofs.Divide.{cancel_apart, zero_if}
 use Rattle.zr_basis.specs.BasicForms.{value_column, right_column, CombinesEquations, IsBasicForm}
-use Rattle.zr_simplex.specs.Dues.{HoldsAt, IsComplete}
 use Rattle.zr_simplex.specs.RowSteps.{IsQuotient, IsMixture, IsPivot}
 
 step_sum : (s t u x y z a by less k : ℤ) → s *ℤ k ≡ by *ℤ t -ℤ less *ℤ u → x *ℤ k ≡ by *ℤ y -ℤ less *ℤ z → (s +ℤ x *ℤ a) *ℤ k ≡ by *ℤ (t +ℤ y *ℤ a) -ℤ less *ℤ (u +ℤ z *ℤ a)
@@ -52,12 +51,7 @@ quotient_mixture width e made q = record {
 mixture_zero : (made by less k e f : ℤ) → k ≢ pos 0 → made *ℤ k ≡ by *ℤ e -ℤ less *ℤ f → e ≡ pos 0 → f ≡ pos 0 → made ≡ pos 0
 mixture_zero made by less k e f apart h i j = zero_if made k apart (h ∙ rw (i, j) (omega (arith, ints)))
 
--- what holds at the made equations holds at those that they were made of
-pub held : (s t u by less k made e f d : ℤ) → by ≢ pos 0 → s *ℤ k ≡ by *ℤ t -ℤ less *ℤ u → made *ℤ k ≡ by *ℤ e -ℤ less *ℤ f → s ≡ made *ℤ d → u ≡ f *ℤ d → t ≡ e *ℤ d
-held s t u by less k made e f d apart p h i j =
-    cancel_apart t (e *ℤ d) by apart (let a = simp spread at (rw (i, j) at p) in let b = simp spread at (ap (λ v. v *ℤ d) h) in simp spread (omega (arith, ints, a, b)))
-
-module _ (p : Program) (basis : ℕ → ℕ) (form : ℕ → ℕ → ℤ) (basic : IsBasicForm p basis form) (complete : IsComplete p form) (r col : ℕ) (row : r < p.rows) (below : col < p.columns + p.rows) (next : ℕ → ℕ) (here : next r ≡ col) (else : (i : ℕ) → i ≢ r → next i ≡ basis i) (made : ℕ → ℕ → ℤ) (pivot : IsPivot (p.rows + 1) (p.columns + p.rows + 2) basis form r col made) where
+module _ (p : Program) (basis : ℕ → ℕ) (form : ℕ → ℕ → ℤ) (basic : IsBasicForm p basis form) (r col : ℕ) (row : r < p.rows) (below : col < p.columns + p.rows) (next : ℕ → ℕ) (here : next r ≡ col) (else : (i : ℕ) → i ≢ r → next i ≡ basis i) (made : ℕ → ℕ → ℤ) (pivot : IsPivot (p.rows + 1) (p.columns + p.rows + 2) basis form r col made) where
   in_width : (i : ℕ) → i ≤ p.rows → basis i < p.columns + p.rows + 2
   in_width i h = ⊎_elim (λ (e : i ≡ p.rows). let v = basic.value in rw e (omega (arith, v))) (λ (a : i ≢ p.rows). let c = basic.columns i (omega arith) in omega (arith, c)) (cases_eq i p.rows)
 
@@ -82,19 +76,3 @@ module _ (p : Program) (basis : ℕ → ℕ) (form : ℕ → ℕ → ℤ) (basic
     other = new_other;
     primitive = λ i h. pivot.primitive i (omega arith);
   }
-
-  pub pivot_complete : IsComplete p made
-  pivot_complete x d holds = complete x d old
-    where
-      width : ℕ
-      width = p.columns + p.rows
-
-      at_row : HoldsAt p (form r) x d
-      at_row =
-          let m = quotient_mixture (p.columns + p.rows + 2) (form r) (made r) pivot.pivoted in
-          let s = mixture_sum (p.columns + p.rows) (form r) (form r) (made r) x (pos 1) (pos 0) pivot.pivoted.over (λ j h. m.numbers j (omega arith)) in
-          let h = holds r row in
-          held (sum_to (p.columns + p.rows) (λ j. made r j *ℤ x j)) (sum_to (p.columns + p.rows) (λ j. form r j *ℤ x j)) (pos 0) (pos 1) (pos 0) pivot.pivoted.over (made r (right_column p)) (form r (right_column p)) (pos 0) d (λ e. cc) (s ∙ omega (arith, ints)) (m.numbers (right_column p) (omega arith) ∙ omega (arith, ints)) h (omega (arith, ints))
-
-      old : (i : ℕ) → i < p.rows → HoldsAt p (form i) x d
-      old i h = ⊎_elim (λ (e : i ≡ r). rw e at_row) (λ (a : i ≢ r). let m = pivot.changed i (omega arith) a in held (sum_to (p.columns + p.rows) (λ j. made i j *ℤ x j)) (sum_to (p.columns + p.rows) (λ j. form i j *ℤ x j)) (sum_to (p.columns + p.rows) (λ j. form r j *ℤ x j)) m.by m.less m.over (made i (right_column p)) (form i (right_column p)) (form r (right_column p)) d m.by_apart (mixture_sum (p.columns + p.rows) (form i) (form r) (made i) x m.by m.less m.over (λ j q. m.numbers j (omega arith))) (m.numbers (right_column p) (omega arith)) (holds i h) at_row) (cases_eq i r)

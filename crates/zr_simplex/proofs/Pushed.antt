@@ -8,7 +8,8 @@ use Rattle.zr_lin.specs.declared.system.Ineq.{Ineq}
 use Rattle.zr_lin.specs.Ineqs.{IneqOf, dense, ineq_of, row_at}
 use Rattle.zr_basis.specs.Programs.{Program}
 use Rattle.zr_basis.specs.BasicForms.{value_column, CombinesEquations}
-use Rattle.zr_simplex.specs.Tableaus.{Equations}
+use Rattle.zr_simplex.specs.Tableaus.{Equations, form_of}
+use Rattle.zr_basis.specs.Stages.{IsDualFeasibleForm}
 use Rattle.zr_simplex.specs.Dues.{IsTableau}
 
 -- the rows are written in another way
@@ -37,7 +38,6 @@ module _ (p : Program) (coef : ℕ → ℕ → ℤ) (le : ℕ → ℤ) (same : (
       other = kept.form.other;
       primitive = kept.form.primitive;
     };
-    complete = λ x d holds r h. rw (same r h, right r h) (kept.complete x d holds r h);
   }
 
 -- the rows before the pushed one
@@ -52,7 +52,8 @@ one_more rows row P all here =
     alone : (x : IneqOf) → P x → All P (x ∷ [])
     alone x h = search rules
 
--- a tableau, if there is one
-pub tableau_if : (p : Program) (coef : ℕ → ℕ → ℤ) (le : ℕ → ℤ) (same : (r : ℕ) → r < p.rows → coef r ≡ p.coef r) (right : (r : ℕ) → r < p.rows → le r ≡ p.le r) (t : Option Equations) → MatchOption t (Unit {0}) (IsTableau p) → MatchOption t (Unit {0}) (IsTableau (record { columns = p.columns; rows = p.rows; coef = coef; le = le; aim = p.aim }))
+-- a tableau, if there is one, at which the value falls along no column
+pub tableau_if : (p : Program) (coef : ℕ → ℕ → ℤ) (le : ℕ → ℤ) (same : (r : ℕ) → r < p.rows → coef r ≡ p.coef r) (right : (r : ℕ) → r < p.rows → le r ≡ p.le r) (t : Option Equations) → MatchOption t (Unit {0}) (λ t. IsTableau p t × IsDualFeasibleForm p (form_of t)) → MatchOption t (Unit {0}) (λ t. IsTableau (record { columns = p.columns; rows = p.rows; coef = coef; le = le; aim = p.aim }) t × IsDualFeasibleForm (record { columns = p.columns; rows = p.rows; coef = coef; le = le; aim = p.aim }) (form_of t))
 tableau_if p coef le same right None kept = tt
-tableau_if p coef le same right (Some t) kept = tableau_retold p coef le same right t kept
+tableau_if p coef le same right (Some t) kept =
+    (tableau_retold p coef le same right t kept.0, kept.1)

@@ -5,7 +5,7 @@ use Rattle.zr_basis.specs.BasicForms.{value_column}
 use Rattle.zr_simplex.specs.RowSteps.{IsPivot}
 use Rattle.zr_simplex.specs.Tableaus.{Equations, IsPartition, basis_of, form_of, free_of}
 use Rattle.zr_simplex.specs.Dues.{IsTableau}
-use Rattle.zr_simplex.proofs.Pivots.{pivot_keeps, pivot_complete}
+use Rattle.zr_simplex.proofs.Pivots.{pivot_keeps}
 
 pub turned : (p : Program) (t new : Equations) (row col : ℕ) → IsTableau p t → row < p.rows → col < value_column p → new.width ≡ t.width → IsPivot (length t.basis) t.width (basis_of t) (form_of t) row col (form_of new) → new.basis ≡ set t.basis row col → IsPartition new.width new.basis new.free → (length new.free ≡ length t.free) × ((k : ℕ) → k < length t.free → free_of t k ≢ col → free_of new k ≡ free_of t k) → IsTableau p new
 unfolding form_of
@@ -19,6 +19,5 @@ turned p t new row col kept inside column width made is partition off =
       partition = partition;
       free_count = off.0 ∙ kept.free_count;
       right = off.1 p.columns (omega (arith, kept.free_count)) (λ e. omega (arith, e, kept.right, column)) ∙ kept.right;
-      form = pivot_keeps p (basis_of t) (form_of t) kept.form kept.complete row col inside column (basis_of new) here else (form_of new) pivot;
-      complete = pivot_complete p (basis_of t) (form_of t) kept.form kept.complete row col inside column (basis_of new) here else (form_of new) pivot;
+      form = pivot_keeps p (basis_of t) (form_of t) kept.form row col inside column (basis_of new) here else (form_of new) pivot;
     }

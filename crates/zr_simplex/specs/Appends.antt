@@ -1,11 +1,9 @@
 -- A row more for a program whose equations are kept.
-use Rattle.std.specs.Prelude.{◌≡◌, ◌≢◌, ℕ, ◌+◌, ◌-◌, ◌<◌, ℤ, pos, ◌+ℤ◌, ◌-ℤ◌, ◌*ℤ◌, ◌<ℤ◌, nat_lt, ◌==◌, if◌then◌else◌, List, [], ◌∷◌, ◌++◌, length, slice_index, slice_set}
-use Rattle.zr_base.specs.Sums.{sum_to}
+use Rattle.std.specs.Prelude.{◌≡◌, ◌≢◌, ℕ, ◌+◌, ◌-◌, ◌<◌, ℤ, pos, ◌-ℤ◌, ◌*ℤ◌, ◌<ℤ◌, nat_lt, ◌==◌, if◌then◌else◌, List, [], ◌∷◌, ◌++◌, length, slice_index, slice_set}
 use Rattle.zr_basis.specs.Programs.{Program}
 use Rattle.zr_basis.specs.BasicForms.{CombinesEquations, IsPrimitive}
 use Rattle.zr_simplex.specs.RowSteps.{IsQuotient}
 use Rattle.zr_simplex.specs.Tableaus.{Equations, IsPartition, form_of}
-use Rattle.zr_simplex.specs.Dues.{HoldsAt}
 
 -- the program without the rows from this one on
 abbrev pub first_rows : Program → ℕ → Program
@@ -23,13 +21,12 @@ pub record IsTakenOff (width : ℕ) (e old made : ℕ → ℤ) : Type 0 where
   pub numbers : (j : ℕ) → j < width → made j ≡ by *ℤ old j -ℤ less *ℤ e j
   pub own : made width ≡ by *ℤ old width
 
--- u, over the columns of the first rows and with its own number after them, is an equation of the program in which the first columns of the basis have been cleared, and which says no less than the row after the first ones
+-- u, over the columns of the first rows and with its own number after them, is an equation of the program in which the first columns of the basis have been cleared
 pub record IsExpressed (p : Program) (rows count : ℕ) (basis : ℕ → ℕ) (form : ℕ → ℕ → ℤ) (u : ℕ → ℤ) : Type 0 where
   pub combination : CombinesEquations p (extended (p.columns + rows) u (u (p.columns + rows + 2)))
   pub own : (pos 0) <ℤ u (p.columns + rows + 2)
   pub value : u (p.columns + rows) ≡ pos 0
   pub cleared : (k : ℕ) → k < count → u (basis k) ≡ pos 0
-  pub recovers : (x : ℕ → ℤ) (d : ℤ) → ((i : ℕ) → i < rows → HoldsAt p (extended (p.columns + rows) (form i) (pos 0)) x d) → HoldsAt p (extended (p.columns + rows) u (u (p.columns + rows + 2))) x d → sum_to p.columns (λ j. p.coef rows j *ℤ x j) +ℤ x (p.columns + rows) ≡ p.le rows *ℤ d
 
 -- the condensed numbers, times a number, are those of e at the columns off the basis and at `home`
 pub record IsCondensed (free : List ℕ) (home : ℕ) (e made : ℕ → ℤ) : Type 0 where

@@ -1,26 +1,14 @@
 -- The equations of a program that the method keeps, and what is due at them.
-use Rattle.std.specs.Prelude.{◌≡◌, ℕ, ◌+◌, ◌<◌, ℤ, ◌*ℤ◌, ◌+ℤ◌, List, length, slice_index}
-use Rattle.zr_base.specs.Sums.{sum_to}
+use Rattle.std.specs.Prelude.{◌≡◌, ℕ, ◌+◌, ◌<◌, ℤ, List, length, slice_index}
 use Rattle.zr_simplex.specs.declared.choose.Due.{Due}
 use Rattle.zr_simplex.specs.declared.choose.Due.TheVariants.{Best, Empty, Unbounded, Pivot}
 use Rattle.zr_basis.specs.Programs.{Program}
 use Rattle.zr_basis.specs.BasicForms.{right_column, value_column, IsBasicForm}
+use Rattle.zr_basis.specs.Orders.{Order}
 use Rattle.zr_basis.specs.Primal.{IsPrimalDue}
 use Rattle.zr_basis.specs.Dual.{IsDualDue}
 use Rattle.zr_simplex.specs.Ends.{IsLeastAt, IsEmptyAt, IsEndlessAt}
 use Rattle.zr_simplex.specs.Tableaus.{Equations, IsPartition, basis_of, form_of, free_of}
-
--- e holds where the columns have the values `x j / d`
-abbrev pub HoldsAt : Program → (ℕ → ℤ) → (ℕ → ℤ) → ℤ → Type 0
-HoldsAt p e x d = sum_to (p.columns + p.rows) (λ j. e j *ℤ x j) ≡ e (right_column p) *ℤ d
-
--- each row's slack is what its left side leaves
-abbrev pub AreSlacks : Program → (ℕ → ℤ) → ℤ → Type 0
-AreSlacks p x d = (r : ℕ) → r < p.rows → sum_to p.columns (λ j. p.coef r j *ℤ x j) +ℤ x (p.columns + r) ≡ p.le r *ℤ d
-
--- the equations of the rows say no less than the program's
-abbrev pub IsComplete : Program → (ℕ → ℕ → ℤ) → Type 0
-IsComplete p form = (x : ℕ → ℤ) (d : ℤ) → ((i : ℕ) → i < p.rows → HoldsAt p (form i) x d) → AreSlacks p x d
 
 -- the equations are the basic form of the basis; off it stand as many columns as the program has, and last that of the right sides
 pub record IsTableau (p : Program) (t : Equations) : Type 0 where
@@ -30,18 +18,17 @@ pub record IsTableau (p : Program) (t : Equations) : Type 0 where
   pub free_count : length t.free ≡ p.columns + 1
   pub right : free_of t p.columns ≡ right_column p
   pub form : IsBasicForm p (basis_of t) (form_of t)
-  pub complete : IsComplete p (form_of t)
 
 -- the list has a column before the value's for each row
 abbrev pub IsStartBasis : Program → List ℕ → Type 0
 IsStartBasis p start =
     (length start ≡ p.rows + 1) × ((i : ℕ) → i < p.rows → slice_index start i < value_column p)
 
--- what is due where a right side is below zero: no point meets the rows, or a pivot by the dual rule
-abbrev pub IsMendingDue : Program → (ℕ → ℕ) → (ℕ → ℕ → ℤ) → Due → Type 0
-IsMendingDue p basis form (Empty row) = IsEmptyAt p form row
-IsMendingDue p basis form (Pivot row col) = IsDualDue p basis form row col
-IsMendingDue p basis form _ = ⊥
+-- what is due where a right side is below zero: no point meets the rows, or a pivot by the dual rule, in this order
+abbrev pub IsMendingDue : Program → Order → (ℕ → ℕ) → (ℕ → ℕ → ℤ) → Due → Type 0
+IsMendingDue p order basis form (Empty row) = IsEmptyAt p form row
+IsMendingDue p order basis form (Pivot row col) = IsDualDue p order basis form row col
+IsMendingDue p order basis form _ = ⊥
 
 -- what is due where none is: an answer, or a pivot by the primal rule, whose vectors are read by the basis `start`
 abbrev pub IsImprovingDue : Program → (ℕ → ℕ) → (ℕ → ℕ → ℤ) → Due → Type 0

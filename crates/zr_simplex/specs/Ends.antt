@@ -2,12 +2,11 @@
 use Rattle.std.specs.Prelude.{ℕ, ◌<◌, ℤ, pos, ◌<ℤ◌, ◌≤ℤ◌}
 use Rattle.zr_basis.specs.Programs.{Program}
 use Rattle.zr_basis.specs.BasicForms.{right_column, value_column}
-use Rattle.zr_basis.specs.Stages.{IsFeasibleForm}
+use Rattle.zr_basis.specs.Stages.{IsFeasibleForm, IsDualFeasibleForm}
 
 -- no right side is below zero, and the value falls along no column
 abbrev pub IsLeastAt : Program → (ℕ → ℕ → ℤ) → Type 0
-IsLeastAt p form =
-    IsFeasibleForm p form × ((j : ℕ) → j < value_column p → form p.rows j ≤ℤ (pos 0))
+IsLeastAt p form = IsFeasibleForm p form × IsDualFeasibleForm p form
 
 -- the row's right side is below zero, and none of its numbers is
 abbrev pub IsEmptyAt : Program → (ℕ → ℕ → ℤ) → ℕ → Type 0

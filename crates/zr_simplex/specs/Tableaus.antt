@@ -2,6 +2,7 @@
 use Rattle.std.specs.Prelude.{◌≡◌, ◌≢◌, ℕ, ◌+◌, ◌*◌, ◌<◌, ℤ, pos, ◌==◌, if◌then◌else◌, ◌⊎◌, List, take, drop, length, slice_index, slice_index_or}
 use Rattle.zr_simplex.specs.declared.columns.Column.{Column}
 use Rattle.zr_simplex.specs.declared.columns.Column.TheVariants.{Basic, Free}
+use Rattle.zr_basis.specs.Orders.{Order}
 use Rattle.zr_simplex.specs.Programs.{numbers}
 
 -- a basis, the columns off it, where each column stands, how many there are, and the condensed equations one after the other
@@ -64,3 +65,7 @@ basis_of t i = slice_index t.basis i
 -- the column at this place off the basis
 abbrev pub free_of : Equations → ℕ → ℕ
 free_of t place = slice_index t.free place
+
+-- the order in which columns are listed
+abbrev pub order_of : List ℕ → Order
+order_of columns = record { count = length columns; column = λ k. slice_index columns k }

@@ -1,7 +1,8 @@
-ghost use Rattle.std.specs.Prelude.{◌≡◌, ◌≢◌, ◌<◌, ◌+◌, ◌-◌, ◌*◌, ℕ, ℤ, pos, ◌-ℤ◌, ◌*ℤ◌, ◌<ℤ◌, ◌++◌, length, slice_index, drop, IfOk, OnOk};
+ghost use Rattle.std.specs.Prelude.{◌≡◌, ◌≢◌, ◌<◌, ◌+◌, ◌-◌, ◌*◌, ℕ, ℤ, pos, ◌-ℤ◌, ◌*ℤ◌, ◌<ℤ◌, ◌++◌, ◌∷◌, [], length, slice_index, drop, IfOk, IfSome, OnOk};
 ghost use Rattle.std.specs.List.{All};
 ghost use Rattle.zr_base.specs.Steps.{IsNarrow};
-ghost use Rattle.zr_basis.specs.BasicForms.{IsPrimitive};
+ghost use Rattle.zr_basis.specs.BasicForms.{IsPrimitive, value_column};
+ghost use Rattle.zr_basis.specs.Stages.{IsDualFeasibleForm};
 ghost use Rattle.zr_simplex.specs.Programs.{IsLp, numbers, program_of};
 ghost use Rattle.zr_simplex.specs.RowSteps.{IsGreatest, IsFirstEquation};
 ghost use Rattle.zr_simplex.specs.Tableaus.{basis_of, form_of, row_in};
@@ -15,13 +16,6 @@ use crate::start::write_row;
 use crate::tableau::Tableau;
 use std::alloc::{AllocError, Global};
 use zr_base::Wide;
-
-/// Why a row can't be appended to a tableau: the caller starts afresh.
-#[derive(Clone, Copy)]
-pub(crate) enum Lost {
-    NoMemory,
-    Wide,
-}
 
 /// Writes the last row's equation, over the columns of the program without it, and then 1 for its
 /// slack.
@@ -105,25 +99,25 @@ fn clear_column(made: &mut [i128], tableau: &Tableau, row: usize) -> Result<(), 
     take_off(made, tableau, row, by, less)
 }
 
-/// The last row's equation with the columns of the basis cleared.
-fn express(alloc: Global, lp: &Lp, tableau: &Tableau, rows: usize) -> Result<Vec<i128>, Lost>
+/// The last row's equation with the columns of the basis cleared, if no step is too wide.
+fn express(alloc: Global, lp: &Lp, tableau: &Tableau, rows: usize) -> Option<Vec<i128>>
     requires lp { IsLp lp.now }
     requires rows { rows + 1 ≡ length lp.now.rows.items }
     requires kept { IsTableau (first_rows (program_of lp.now) rows) tableau.now }
-    ensures len { IfOk result (λ made. length made.items ≡ lp.now.columns + rows + 3) }
-    ensures narrow { IfOk result (λ made. All IsNarrow made.items) }
-    ensures expressed { IfOk result (λ made. IsExpressed (program_of lp.now) rows rows (basis_of tableau.now) (form_of tableau.now) (numbers made.items)) }
+    ensures len { IfSome result (λ made. length made.items ≡ lp.now.columns + rows + 3) }
+    ensures narrow { IfSome result (λ made. All IsNarrow made.items) }
+    ensures expressed { IfSome result (λ made. IsExpressed (program_of lp.now) rows rows (basis_of tableau.now) (form_of tableau.now) (numbers made.items)) }
 {
     let mut made = match raw_row(alloc, lp, rows) {
         Ok(made) => made,
-        Err(_) => return Err(Lost::NoMemory),
+        Err(_) => return None,
     };
     for row in 0..rows {
         if clear_column(&mut made, tableau, row).is_err() {
-            return Err(Lost::Wide);
+            return None;
         }
     }
-    Ok(made)
+    Some(made)
 }
 
 /// Writes an equation's numbers at the columns off the basis, and then its own, into their places,
@@ -214,19 +208,23 @@ fn copy_last(numbers: &mut Vec<i128>, start: usize, count: usize) -> Result<(), 
     Ok(())
 }
 
-/// The tableau with the last row of the program appended to that of the rows before it.
+/// The tableau with the last row of the program appended to that of the rows before it, unless
+/// memory is wanting or a step is too wide.
 ///
 /// The row's equation is freed of the columns of the basis, and its slack comes into the basis.
-pub(crate) fn append(alloc: Global, lp: &Lp, tableau: Tableau) -> Result<Tableau, Lost>
+pub(crate) fn append(alloc: Global, lp: &Lp, tableau: Tableau) -> Option<Tableau>
     requires lp { IsLp lp.now }
     requires some { 0 < length lp.now.rows.items }
     requires kept { (rows : ℕ) → rows + 1 ≡ length lp.now.rows.items → IsTableau (first_rows (program_of lp.now) rows) tableau }
-    ensures { IfOk result (IsTableau (program_of lp.now)) }
+    requires dual { (rows : ℕ) → rows + 1 ≡ length lp.now.rows.items → IsDualFeasibleForm (first_rows (program_of lp.now) rows) (form_of tableau) }
+    ensures kept { IfSome result (IsTableau (program_of lp.now)) }
+    ensures dual { IfSome result (λ made. IsDualFeasibleForm (program_of lp.now) (form_of made)) }
+    ensures basis { IfSome result (λ made. made.basis ≡ tableau.basis ++ value_column (program_of lp.now) ∷ []) }
 {
     let rows = lp.rows.len() - 1;
     let made = express(alloc, lp, &tableau, rows)?;
     match tableau.with_row(&made) {
-        Ok(made) => Ok(made),
-        Err(_) => Err(Lost::NoMemory),
+        Ok(made) => Some(made),
+        Err(_) => None,
     }
 }

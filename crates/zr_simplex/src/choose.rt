@@ -1,13 +1,14 @@
 ghost use Rattle.std.specs.Prelude.{◌≡◌, ◌≢◌, ◌<◌, ◌+◌, ◌≤◌, ◌⊎◌, ℕ, ℤ, pos, neg_ℤ, ◌<ℤ◌, ◌≤ℤ◌, ◌*ℤ◌, true, false, Some, MatchOption, length, slice_index, IfOk};
-ghost use Rattle.std.specs.Ordering.{int_cmp};
+ghost use Rattle.std.specs.Ordering.{MatchOrdering, int_cmp};
 ghost use Rattle.zr_base.specs.Fractions.{HaveSameCross, ratio};
 ghost use Rattle.zr_base.specs.Lowest.{IsRatio};
 ghost use Rattle.zr_basis.specs.BasicForms.{right_column, value_column};
 ghost use Rattle.zr_basis.specs.Stages.{IsFeasibleForm};
 ghost use Rattle.zr_basis.specs.Primal.{IsPrimalDue, IsRowBelow, place};
-ghost use Rattle.zr_basis.specs.Dual.{IsDualDue, IsDirectionBelow};
+ghost use Rattle.zr_basis.specs.Orders.{IsOrder};
+ghost use Rattle.zr_basis.specs.Dual.{IsComparison, IsDirectionBelow, IsDualDue};
 ghost use Rattle.zr_simplex.specs.Programs.{IsLp, program_of};
-ghost use Rattle.zr_simplex.specs.Tableaus.{basis_of, form_of};
+ghost use Rattle.zr_simplex.specs.Tableaus.{basis_of, form_of, free_of, order_of};
 ghost use Rattle.zr_simplex.specs.Dues.{IsImprovingDue, IsMendingDue, IsStartBasis, IsTableau};
 
 use crate::program::Lp;
@@ -25,24 +26,27 @@ pub(crate) enum Due {
     Pivot(usize, usize),
 }
 
-/// What is due: by the dual rule while a right side is below zero, and then by the primal rule. The
-/// basis at which none is below zero for the first time is kept as `start`.
+/// What is due: by the dual rule, in an order of the columns, while a right side is below zero, and
+/// then by the primal rule. The basis at which none is below zero for the first time is kept as
+/// `start`.
 pub(crate) fn next_due(
     alloc: Global,
     lp: &Lp,
     tableau: &Tableau,
+    order: &[u32],
     start: &mut Option<Vec<u32>>,
 ) -> Result<Due, AllocError>
+    requires order { IsOrder (program_of lp.now) (order_of order.now) }
     requires lp { IsLp lp.now }
     requires kept { IsTableau (program_of lp.now) tableau.now }
     requires start { MatchOption start.old (Unit {0}) (λ kept. IsStartBasis (program_of lp.now) kept.items × IsFeasibleForm (program_of lp.now) (form_of tableau.now)) }
-    ensures due { IfOk result (λ due. MatchOption start.new (IsMendingDue (program_of lp.now) (basis_of tableau.now) (form_of tableau.now) due) (λ kept. IsImprovingDue (program_of lp.now) (λ i. slice_index kept.items i) (form_of tableau.now) due)) }
+    ensures due { IfOk result (λ due. MatchOption start.new (IsMendingDue (program_of lp.now) (order_of order.now) (basis_of tableau.now) (form_of tableau.now) due) (λ kept. IsImprovingDue (program_of lp.now) (λ i. slice_index kept.items i) (form_of tableau.now) due)) }
     ensures kept { MatchOption start.old (MatchOption start.new (Unit {0}) (λ kept. (kept.items ≡ tableau.now.basis) × IsFeasibleForm (program_of lp.now) (form_of tableau.now))) (λ kept. start.new ≡ Some kept) }
 {
     if let Some(kept) = start {
         return Ok(improving_due(lp, tableau, kept));
     }
-    if let Some(due) = mending_due(lp, tableau) {
+    if let Some(due) = mending_due(lp, tableau, order) {
         return Ok(due);
     }
     let kept = tableau.basis().to_vec(alloc)?;
@@ -53,15 +57,16 @@ pub(crate) fn next_due(
 
 /// What is due while a right side is below zero: a pivot by the dual rule, or no point meets the
 /// rows.
-fn mending_due(lp: &Lp, tableau: &Tableau) -> Option<Due>
+fn mending_due(lp: &Lp, tableau: &Tableau, order: &[u32]) -> Option<Due>
+    requires order { IsOrder (program_of lp.now) (order_of order.now) }
     requires lp { IsLp lp.now }
     requires kept { IsTableau (program_of lp.now) tableau.now }
-    ensures { MatchOption result (IsFeasibleForm (program_of lp.now) (form_of tableau.now)) (IsMendingDue (program_of lp.now) (basis_of tableau.now) (form_of tableau.now)) }
+    ensures { MatchOption result (IsFeasibleForm (program_of lp.now) (form_of tableau.now)) (IsMendingDue (program_of lp.now) (order_of order.now) (basis_of tableau.now) (form_of tableau.now)) }
 {
     let Some(row) = row_to_mend(lp, tableau) else {
         return None;
     };
-    match column_to_enter(lp, tableau, row) {
+    match column_to_enter(lp, tableau, order, row) {
         Some(column) => Some(Due::Pivot(row, column)),
         None => Some(Due::Empty(row)),
     }
@@ -86,7 +91,7 @@ fn improving_due(lp: &Lp, tableau: &Tableau, start: &[u32]) -> Due
 }
 
 /// The first row whose right side is below zero.
-pub(crate) fn row_to_mend(lp: &Lp, tableau: &Tableau) -> Option<usize>
+fn row_to_mend(lp: &Lp, tableau: &Tableau) -> Option<usize>
     requires lp { IsLp lp.now }
     requires kept { IsTableau (program_of lp.now) tableau.now }
     ensures { MatchOption result (IsFeasibleForm (program_of lp.now) (form_of tableau.now)) (λ i. (i < length lp.now.rows.items) × (form_of tableau.now i (right_column (program_of lp.now)) <ℤ pos 0)) }
@@ -108,80 +113,139 @@ fn right_of(lp: &Lp) -> usize
     lp.columns as usize + lp.rows.len() + 1
 }
 
-/// The column that enters in place of a row's: of those where the row is below zero the one with
-/// the lowest direction, each over the row's number, negated.
-fn column_to_enter(lp: &Lp, tableau: &Tableau, row: usize) -> Option<usize>
+/// The column that enters in place of a row's: of those where the row is below zero the one whose
+/// direction is lowest in the order, each over the row's number, negated.
+fn column_to_enter(lp: &Lp, tableau: &Tableau, order: &[u32], row: usize) -> Option<usize>
     requires lp { IsLp lp.now }
     requires kept { IsTableau (program_of lp.now) tableau.now }
+    requires order { IsOrder (program_of lp.now) (order_of order.now) }
     requires row { row < length lp.now.rows.items }
     requires right { form_of tableau.now row (right_column (program_of lp.now)) <ℤ pos 0 }
-    ensures { MatchOption result ((j : ℕ) → j < value_column (program_of lp.now) → pos 0 ≤ℤ form_of tableau.now row j) (IsDualDue (program_of lp.now) (basis_of tableau.now) (form_of tableau.now) row) }
+    ensures { MatchOption result ((j : ℕ) → j < value_column (program_of lp.now) → pos 0 ≤ℤ form_of tableau.now row j) (IsDualDue (program_of lp.now) (order_of order.now) (basis_of tableau.now) (form_of tableau.now) row) }
+{
+    match place_to_enter(lp, tableau, order, row) {
+        Some(place) => Some(tableau.free(place)),
+        None => None,
+    }
+}
+
+/// The place off the basis at which the column stands that enters in place of a row's.
+fn place_to_enter(lp: &Lp, tableau: &Tableau, order: &[u32], row: usize) -> Option<usize>
+    requires lp { IsLp lp.now }
+    requires kept { IsTableau (program_of lp.now) tableau.now }
+    requires order { IsOrder (program_of lp.now) (order_of order.now) }
+    requires row { row < length lp.now.rows.items }
+    requires right { form_of tableau.now row (right_column (program_of lp.now)) <ℤ pos 0 }
+    ensures { MatchOption result ((j : ℕ) → j < value_column (program_of lp.now) → pos 0 ≤ℤ form_of tableau.now row j) (λ place. (place < lp.now.columns) × IsDualDue (program_of lp.now) (order_of order.now) (basis_of tableau.now) (form_of tableau.now) row (free_of tableau.now place)) }
 {
     let mut best = None;
-    for j in 0..lp.columns as usize + lp.rows.len() {
-        if tableau.number(row, j) < 0 {
-            best = Some(better_column(lp, tableau, row, best, j));
+    for place in 0..lp.columns as usize {
+        let column = tableau.free(place);
+        if tableau.number(row, column) < 0 {
+            best = Some(better_place(lp, tableau, order, row, best, place));
         }
     }
     best
 }
 
-/// The better of two columns to enter.
-fn better_column(
+/// The better of two places whose columns may enter.
+fn better_place(
     lp: &Lp,
     tableau: &Tableau,
+    order: &[u32],
     row: usize,
     best: Option<usize>,
-    column: usize,
+    place: usize,
 ) -> usize
     requires lp { IsLp lp.now }
     requires kept { IsTableau (program_of lp.now) tableau.now }
+    requires order { IsOrder (program_of lp.now) (order_of order.now) }
     requires row { row < length lp.now.rows.items }
-    requires column { column < value_column (program_of lp.now) }
-    requires under { form_of tableau.now row column <ℤ pos 0 }
-    requires best { MatchOption best (Unit {0}) (λ last. (last < column) × (form_of tableau.now row last <ℤ pos 0)) }
-    ensures { MatchOption best (result ≡ column) (λ last. ((result ≡ column) × IsDirectionBelow (program_of lp.now) (basis_of tableau.now) (form_of tableau.now) row column last) ⊎ ((result ≡ last) × (IsDirectionBelow (program_of lp.now) (basis_of tableau.now) (form_of tableau.now) row column last → ⊥))) }
+    requires place { place < lp.now.columns }
+    requires under { form_of tableau.now row (free_of tableau.now place) <ℤ pos 0 }
+    requires best { MatchOption best (Unit {0}) (λ last. (last < place) × (form_of tableau.now row (free_of tableau.now last) <ℤ pos 0)) }
+    ensures { MatchOption best (result ≡ place) (λ last. ((result ≡ place) × IsDirectionBelow (program_of lp.now) (order_of order.now) (basis_of tableau.now) (form_of tableau.now) row (free_of tableau.now place) (free_of tableau.now last)) ⊎ ((result ≡ last) × (IsDirectionBelow (program_of lp.now) (order_of order.now) (basis_of tableau.now) (form_of tableau.now) row (free_of tableau.now place) (free_of tableau.now last) → ⊥))) }
 {
-    match best {
-        Some(last) if !is_lower_ray(lp, tableau, row, column, last) => last,
-        _ => column,
+    let Some(last) = best else {
+        return place;
+    };
+    let column = tableau.free(place);
+    let other = tableau.free(last);
+    if is_lower_direction(lp, tableau, order, row, column, other) {
+        place
+    } else {
+        last
     }
 }
 
-/// Whether the direction of a column is lower than that of an earlier one, each over the row's
-/// number, negated.
-fn is_lower_ray(lp: &Lp, tableau: &Tableau, row: usize, column: usize, last: usize) -> bool
+/// Whether the direction of a column is lower in the order than that of another one, each over the
+/// row's number, negated.
+fn is_lower_direction(
+    lp: &Lp,
+    tableau: &Tableau,
+    order: &[u32],
+    row: usize,
+    column: usize,
+    last: usize,
+) -> bool
     requires lp { IsLp lp.now }
     requires kept { IsTableau (program_of lp.now) tableau.now }
+    requires order { IsOrder (program_of lp.now) (order_of order.now) }
     requires row { row < length lp.now.rows.items }
     requires column { column < value_column (program_of lp.now) }
-    requires order { last < column }
+    requires last { last < value_column (program_of lp.now) }
+    requires apart { column ≢ last }
     requires under { form_of tableau.now row column <ℤ pos 0 }
     requires under_last { form_of tableau.now row last <ℤ pos 0 }
-    ensures yes { result ≡ true → IsDirectionBelow (program_of lp.now) (basis_of tableau.now) (form_of tableau.now) row column last }
-    ensures no { result ≡ false → IsDirectionBelow (program_of lp.now) (basis_of tableau.now) (form_of tableau.now) row column last → ⊥ }
+    ensures yes { result ≡ true → IsDirectionBelow (program_of lp.now) (order_of order.now) (basis_of tableau.now) (form_of tableau.now) row column last }
+    ensures no { result ≡ false → IsDirectionBelow (program_of lp.now) (order_of order.now) (basis_of tableau.now) (form_of tableau.now) row column last → ⊥ }
 {
-    for at in 0..last {
-        if let Some(i) = tableau.row_of(at) {
-            match compare_rays(tableau, row, column, last, i) {
-                Ordering::Less => return true,
-                Ordering::Greater => return false,
-                Ordering::Equal => {}
-            }
+    for place in 0..order.len() {
+        match compare_directions(lp, tableau, row, column, last, order[place] as usize) {
+            Ordering::Less => return true,
+            Ordering::Greater => return false,
+            Ordering::Equal => {}
         }
     }
-    true
+    false
 }
 
-/// The order of what row `at` has at column `last` and at `column`, each over the number of `row`
-/// there, negated.
-pub(crate) fn compare_rays(
+/// The order of two directions at column `at`, that of `column` and that of `last`, each over the
+/// number of `row` there, negated.
+fn compare_directions(
+    lp: &Lp,
     tableau: &Tableau,
     row: usize,
     column: usize,
     last: usize,
     at: usize,
 ) -> Ordering
+    requires lp { IsLp lp.now }
+    requires kept { IsTableau (program_of lp.now) tableau.now }
+    requires row { row < length lp.now.rows.items }
+    requires column { column < value_column (program_of lp.now) }
+    requires last { last < value_column (program_of lp.now) }
+    requires at { at ≤ value_column (program_of lp.now) }
+    requires apart { column ≢ last }
+    requires under { form_of tableau.now row column <ℤ pos 0 }
+    requires under_last { form_of tableau.now row last <ℤ pos 0 }
+    ensures { (c : ℕ → ℤ) → IsComparison (program_of lp.now) (basis_of tableau.now) (form_of tableau.now) row column last c → MatchOrdering result (pos 0 <ℤ c at) (c at ≡ pos 0) (c at <ℤ pos 0) }
+{
+    if at == last {
+        return Ordering::Less;
+    }
+    if at == column {
+        return Ordering::Greater;
+    }
+    match tableau.row_of(at) {
+        Some(i) => compare_at_row(tableau, row, column, last, i),
+        None => Ordering::Equal,
+    }
+}
+
+/// The order of what row `at` has at column `last` and at `column`, each over the number of `row`
+/// there, negated.
+fn compare_at_row(tableau: &Tableau, row: usize, column: usize, last: usize, at: usize) -> Ordering
     requires row { row < length tableau.now.basis }
     requires at { at < length tableau.now.basis }
     requires column { column < tableau.now.width }
@@ -198,16 +262,17 @@ pub(crate) fn compare_rays(
     )
 }
 
-/// The first column, before the value's, along which the value falls.
-pub(crate) fn column_to_raise(lp: &Lp, tableau: &Tableau) -> Option<usize>
+/// The first column off the basis along which the value falls.
+fn column_to_raise(lp: &Lp, tableau: &Tableau) -> Option<usize>
     requires lp { IsLp lp.now }
     requires kept { IsTableau (program_of lp.now) tableau.now }
     ensures { MatchOption result ((j : ℕ) → j < value_column (program_of lp.now) → form_of tableau.now (length lp.now.rows.items) j ≤ℤ pos 0) (λ j. (j < value_column (program_of lp.now)) × (pos 0 <ℤ form_of tableau.now (length lp.now.rows.items) j)) }
 {
     let value = lp.rows.len();
-    for j in 0..lp.columns as usize + value {
-        if tableau.number(value, j) > 0 {
-            return Some(j);
+    for place in 0..lp.columns as usize {
+        let column = tableau.free(place);
+        if tableau.number(value, column) > 0 {
+            return Some(column);
         }
     }
     None

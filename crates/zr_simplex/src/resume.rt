@@ -1,30 +1,27 @@
-ghost use Rattle.std.specs.Prelude.{◌≡◌, ◌≢◌, ◌<◌, ◌+◌, ◌++◌, ◌∷◌, [], ◌⊎◌, ℕ, pos, ◌<ℤ◌, ◌≤ℤ◌, false, Some, length, IfOk, IfErr, OnOk, OnErr, IfSome, MatchOption};
+ghost use Rattle.std.specs.Prelude.{◌≡◌, ◌<◌, ◌+◌, ◌++◌, ◌∷◌, [], ℕ, false, None, length, take, IfOk, IfErr, OnOk, OnErr, MatchOption};
 ghost use Rattle.zr_lin.specs.Ineqs.{IsIneq, ineq_of};
 ghost use Rattle.zr_basis.specs.BasicForms.{value_column};
-ghost use Rattle.zr_io.specs.declared.purse.Purse.{Purse as APurse};
+ghost use Rattle.zr_basis.specs.Runs.{IsFromBasis};
+ghost use Rattle.zr_basis.specs.Stages.{IsDualFeasibleForm};
 ghost use Rattle.zr_simplex.specs.Programs.{IsLp, program_of};
-ghost use Rattle.zr_simplex.specs.Answers.{IsAnswer};
-ghost use Rattle.zr_simplex.specs.Causes.{IsCause};
-ghost use Rattle.zr_simplex.specs.Tableaus.{form_of};
+ghost use Rattle.zr_simplex.specs.Answers.{IsAnswer, IsBasicAnswer};
+ghost use Rattle.zr_simplex.specs.Causes.{CountsFew, IsCause, IsReachedAnswer};
+ghost use Rattle.zr_simplex.specs.Tableaus.{basis_of, form_of};
 ghost use Rattle.zr_simplex.specs.Dues.{IsTableau};
 ghost use Rattle.zr_simplex.specs.Appends.{first_rows};
-ghost use Rattle.zr_simplex.specs.Resumes.{HasBasicForm, IsResumedDue, KeepsSpent};
+ghost use Rattle.zr_simplex.specs.Resumes.{CountsOpenFew, HasLeast, IsAppended, IsNoLeast, IsOpenAnswer, IsOpenCause, KeepsBasis, basis_kept};
 
 use crate::append::append;
-use crate::basic::Miss;
-use crate::choose::{Due, column_to_raise, compare_rays, row_to_mend};
 use crate::program::{Lp, LpAnswer, Stop};
-use crate::solve::{answer, counted_turn, solve};
-use crate::start::start;
+use crate::solve::{solve_afresh, solve_from};
 use crate::tableau::Tableau;
 use std::alloc::{AllocError, Global};
-use std::cmp::Ordering;
 use std::marker::Model;
 use zr_io::Purse;
-use zr_lin::{Ineq, Stuck};
+use zr_lin::Ineq;
 
 /// A linear program to which rows are added between its solutions, each of which goes on from the
-/// basis where the one before it ended.
+/// basis where the one before it ended at a least value.
 #[derive(Drop)]
 pub struct OpenLp {
     lp: Lp,
@@ -33,47 +30,52 @@ pub struct OpenLp {
 
 impl Model for OpenLp {
     ghost use Rattle.std.specs.Prelude.{MatchOption};
-    ghost use Rattle.zr_simplex.specs.declared.program.Lp.{Lp as ALp};
+    ghost use Rattle.zr_basis.specs.Stages.{IsDualFeasibleForm};
     ghost use Rattle.zr_simplex.specs.Programs.{IsLp, program_of};
+    ghost use Rattle.zr_simplex.specs.Tableaus.{form_of};
     ghost use Rattle.zr_simplex.specs.Dues.{IsTableau};
+    ghost use Rattle.zr_simplex.specs.Resumes.{OpenProgram, basis_kept};
 
-    ghost Value = { ALp };
+    ghost Value = { OpenProgram };
 
-    ghost view = { λ o. o.lp };
+    ghost view = { λ o. record { lp = o.lp; basis = basis_kept o.tableau } };
 
-    ghost invariant = { λ o. IsLp o.lp × MatchOption o.tableau (Unit {0}) (IsTableau (program_of o.lp)) };
+    ghost invariant = { λ o. IsLp o.lp × MatchOption o.tableau (Unit {0}) (λ t. IsTableau (program_of o.lp) t × IsDualFeasibleForm (program_of o.lp) (form_of t)) };
 }
 
 impl OpenLp {
     /// A program that wasn't solved yet.
     pub fn new(lp: Lp) -> OpenLp
         requires { IsLp lp }
-        ensures { result ≡ lp }
+        ensures lp { result.lp ≡ lp }
+        ensures basis { result.basis ≡ None }
     {
         OpenLp { lp, tableau: None }
     }
 
     /// The program.
     pub fn lp(&self) -> &Lp
-        ensures value { result.now ≡ self.now }
-        ensures kept { IsLp self.now }
+        ensures value { result.now ≡ self.now.lp }
+        ensures kept { IsLp self.now.lp }
     {
         &self.lp
     }
 
-    /// Adds a row.
+    /// Adds a row. Where appending it to the kept equations meets a step that is too wide, or wants
+    /// memory, the next solution starts afresh.
     ///
     /// # Errors
     ///
     /// For want of memory for the row. The program is then unchanged.
     pub fn add_row(&mut self, alloc: Global, row: Ineq) -> Result<(), AllocError>
-        requires row { IsIneq self.old.columns (ineq_of row) }
+        requires row { IsIneq self.old.lp.columns (ineq_of row) }
         requires weak { row.strict ≡ false }
-        requires size { self.old.columns + length self.old.rows.items + 1 < 4294967294 }
-        ensures columns { self.new.columns ≡ self.old.columns }
-        ensures aim { self.new.aim.items ≡ self.old.aim.items }
-        ensures ok { OnOk result (self.new.rows.items ≡ self.old.rows.items ++ row ∷ []) }
-        ensures err { OnErr result (self.new.rows.items ≡ self.old.rows.items) }
+        requires size { self.old.lp.columns + length self.old.lp.rows.items + 1 < 4294967294 }
+        ensures columns { self.new.lp.columns ≡ self.old.lp.columns }
+        ensures aim { self.new.lp.aim.items ≡ self.old.lp.aim.items }
+        ensures ok { OnOk result (self.new.lp.rows.items ≡ self.old.lp.rows.items ++ row ∷ []) }
+        ensures basis { OnOk result (IsAppended (self.old.lp.columns + length self.old.lp.rows.items + 1) self.old.basis self.new.basis) }
+        ensures err { OnErr result (self.new.lp.rows.items ≡ self.old.lp.rows.items) }
     {
         let tableau = self.tableau.take();
         self.lp.rows.push(row)?;
@@ -84,53 +86,41 @@ impl OpenLp {
     /// The least value of the program with what shows it, or what shows that no point meets the
     /// rows, or that there is no least value.
     ///
-    /// Where an earlier solution ended at a least value, it goes on from there by the dual method
-    /// (C. Lemke, 1954): of the columns where the row is below zero that one enters by which the
-    /// value rises least. Where that comes to no end within as many pivots as the program has columns
-    /// and rows, or to a step that is too wide, the program is solved afresh.
+    /// Where an earlier solution ended at a least value, it goes on from that basis by the dual
+    /// method (C. Lemke, 1954): of the columns where the row is below zero that one enters by which
+    /// the value rises least, and among these the lexicographic order decides, so that no basis comes
+    /// twice. Where that meets a step that is too wide, or wants memory, the program is solved afresh.
     ///
     /// # Errors
     ///
-    /// Those of `solve_lp`.
+    /// Those of `solve_lp`, from the solution afresh.
     pub fn solve(&mut self, alloc: Global, purse: &mut Purse) -> Result<LpAnswer, Stop>
-        ensures same { self.new ≡ self.old }
-        ensures answer { IfOk result (IsAnswer self.old) }
-        ensures basic { IfOk result (HasBasicForm (program_of self.old)) }
-        ensures cause { IfErr result (λ stop. (mid : APurse) × KeepsSpent purse.old mid × IsCause (program_of self.old) mid purse.new stop) }
-        ensures purse { KeepsSpent purse.old purse.new }
+        ensures same { self.new.lp ≡ self.old.lp }
+        ensures answer { IfOk result (IsAnswer self.old.lp) }
+        ensures basic { IfOk result (IsOpenAnswer (program_of self.old.lp) self.old.basis purse.old purse.new) }
+        ensures cause { IfErr result (IsOpenCause (program_of self.old.lp) self.old.basis purse.old purse.new) }
+        ensures few { CountsOpenFew (program_of self.old.lp) self.old.basis purse.old purse.new }
+        ensures kept { IfOk result (KeepsBasis (program_of self.old.lp) self.new.basis) }
+        ensures lost { OnErr result (self.new.basis ≡ None) }
     {
         let tableau = self.tableau.take();
-        if let Some((tableau, found)) = go_on(alloc, &self.lp, tableau, purse) {
-            self.tableau = Some(tableau);
-            return Ok(found);
+        match solve_on(alloc, &self.lp, tableau, purse) {
+            Ok((tableau, found)) => {
+                self.tableau = least_kept(tableau, &found);
+                Ok(found)
+            }
+            Err(stop) => Err(stop),
         }
-        let (tableau, found) = solve_afresh(alloc, &self.lp, purse)?;
-        self.tableau = Some(tableau);
-        Ok(found)
     }
 }
 
-/// Solves a program from the basis of the slacks, and gives the tableau at the end too.
-fn solve_afresh(alloc: Global, lp: &Lp, purse: &mut Purse) -> Result<(Tableau, LpAnswer), Stop>
-    requires lp { IsLp lp.now }
-    ensures kept { IfOk result (λ found. IsTableau (program_of lp.now) found.0) }
-    ensures answer { IfOk result (λ found. IsAnswer lp.now found.1) }
-    ensures basic { IfOk result (λ found. HasBasicForm (program_of lp.now) found.1) }
-    ensures cause { IfErr result (IsCause (program_of lp.now) purse.old purse.new) }
-    ensures purse { KeepsSpent purse.old purse.new }
+/// The tableau where the last solution ended, if that was at a least value.
+fn least_kept(tableau: Tableau, found: &LpAnswer) -> Option<Tableau>
+    ensures { MatchOption result (IsNoLeast found.now) (λ kept. (kept ≡ tableau) × HasLeast found.now) }
 {
-    let mut tableau = match start(alloc, lp) {
-        Ok(tableau) => tableau,
-        Err(_) => return Err(Stop::NoMemory),
-    };
-    match solve(alloc, lp, &mut tableau, purse) {
-        Ok(found) => Ok((tableau, found)),
-        Err(Miss::NoMemory) => Err(Stop::NoMemory),
-        Err(Miss::Wide(step, wide)) => Err(Stop::Wide(Stuck {
-            basis: tableau.into_basis(),
-            step,
-            wide,
-        })),
+    match found {
+        LpAnswer::Best { .. } => Some(tableau),
+        _ => None,
     }
 }
 
@@ -138,98 +128,71 @@ fn solve_afresh(alloc: Global, lp: &Lp, purse: &mut Purse) -> Result<(Tableau, L
 fn with_last_row(alloc: Global, lp: &Lp, tableau: Option<Tableau>) -> Option<Tableau>
     requires lp { IsLp lp.now }
     requires some { 0 < length lp.now.rows.items }
-    requires kept { (rows : ℕ) → rows + 1 ≡ length lp.now.rows.items → MatchOption tableau (Unit {0}) (IsTableau (first_rows (program_of lp.now) rows)) }
-    ensures { MatchOption result (Unit {0}) (IsTableau (program_of lp.now)) }
+    requires kept { (rows : ℕ) → rows + 1 ≡ length lp.now.rows.items → MatchOption tableau (Unit {0}) (λ t. IsTableau (first_rows (program_of lp.now) rows) t × IsDualFeasibleForm (first_rows (program_of lp.now) rows) (form_of t)) }
+    ensures kept { MatchOption result (Unit {0}) (λ t. IsTableau (program_of lp.now) t × IsDualFeasibleForm (program_of lp.now) (form_of t)) }
+    ensures basis { IsAppended (value_column (program_of lp.now)) (basis_kept tableau) (basis_kept result) }
 {
-    match append(alloc, lp, tableau?) {
-        Ok(made) => Some(made),
-        Err(_) => None,
-    }
+    append(alloc, lp, tableau?)
 }
 
-/// Goes on from a basis, if there is one, by the dual method, or gives nothing where that comes to
-/// no end.
-fn go_on(
+/// Goes on from a tableau, if there is one; where there is none, or going on stops, solves afresh.
+fn solve_on(
     alloc: Global,
     lp: &Lp,
     tableau: Option<Tableau>,
     purse: &mut Purse,
-) -> Option<(Tableau, LpAnswer)>
+) -> Result<(Tableau, LpAnswer), Stop>
     requires lp { IsLp lp.now }
-    requires kept { MatchOption tableau (Unit {0}) (IsTableau (program_of lp.now)) }
-    ensures kept { IfSome result (λ found. IsTableau (program_of lp.now) found.0) }
-    ensures answer { IfSome result (λ found. IsAnswer lp.now found.1) }
-    ensures basic { IfSome result (λ found. HasBasicForm (program_of lp.now) found.1) }
-    ensures purse { KeepsSpent purse.old purse.new }
+    requires kept { MatchOption tableau (Unit {0}) (λ t. IsTableau (program_of lp.now) t × IsDualFeasibleForm (program_of lp.now) (form_of t)) }
+    ensures kept { IfOk result (λ found. IsTableau (program_of lp.now) found.0) }
+    ensures answer { IfOk result (λ found. IsAnswer lp.now found.1) }
+    ensures basic { IfOk result (λ found. IsBasicAnswer (program_of lp.now) (basis_of found.0) (form_of found.0) found.1) }
+    ensures open { IfOk result (λ found. IsOpenAnswer (program_of lp.now) (basis_kept tableau) purse.old purse.new found.1) }
+    ensures cause { IfErr result (IsOpenCause (program_of lp.now) (basis_kept tableau) purse.old purse.new) }
+    ensures few { CountsOpenFew (program_of lp.now) (basis_kept tableau) purse.old purse.new }
 {
-    let mut tableau = tableau?;
-    'pivots: for _ in 0..lp.columns as usize + lp.rows.len() + 1 {
-        let Some(due) = resumed_due(lp, &tableau) else {
-            return None;
-        };
-        let Due::Pivot(row, column) = due else {
-            return match answer(alloc, lp, &tableau, due) {
-                Ok(found) => Some((tableau, found)),
-                Err(_) => None,
-            };
-        };
-        if counted_turn(lp, &mut tableau, purse, row, column).is_err() {
-            return None;
-        }
+    let tableau = match tableau {
+        Some(tableau) => tableau,
+        None => return solve_afresh(alloc, lp, purse),
+    };
+    match go_on(alloc, lp, tableau, purse) {
+        Ok(found) => Ok(found),
+        Err(_) => solve_afresh(alloc, lp, purse),
     }
-    None
 }
 
-/// What is due where a program goes on: a pivot by the dual method, or the end.
-fn resumed_due(lp: &Lp, tableau: &Tableau) -> Option<Due>
+/// Goes on from a basis where the value falls along no column.
+fn go_on(
+    alloc: Global,
+    lp: &Lp,
+    tableau: Tableau,
+    purse: &mut Purse,
+) -> Result<(Tableau, LpAnswer), Stop>
+    requires lp { IsLp lp.now }
+    requires kept { IsTableau (program_of lp.now) tableau }
+    requires dual { IsDualFeasibleForm (program_of lp.now) (form_of tableau) }
+    ensures kept { IfOk result (λ found. IsTableau (program_of lp.now) found.0) }
+    ensures answer { IfOk result (λ found. IsAnswer lp.now found.1) }
+    ensures basic { IfOk result (λ found. IsBasicAnswer (program_of lp.now) (basis_of found.0) (form_of found.0) found.1) }
+    ensures reached { IfOk result (λ found. IsReachedAnswer (program_of lp.now) (IsFromBasis (program_of lp.now) (basis_of tableau)) purse.old purse.new found.1) }
+    ensures cause { IfErr result (IsCause (program_of lp.now) (IsFromBasis (program_of lp.now) (basis_of tableau)) purse.old purse.new) }
+    ensures few { CountsFew (program_of lp.now) purse.old purse.new }
+{
+    let order = match value_order(alloc, lp, &tableau) {
+        Ok(order) => order,
+        Err(_) => return Err(Stop::NoMemory),
+    };
+    solve_from(alloc, lp, tableau, &order, purse)
+}
+
+/// The value's column, then those off the basis, and then those of the rows.
+fn value_order(alloc: Global, lp: &Lp, tableau: &Tableau) -> Result<Vec<u32>, AllocError>
     requires lp { IsLp lp.now }
     requires kept { IsTableau (program_of lp.now) tableau.now }
-    ensures { IfSome result (IsResumedDue (program_of lp.now) (form_of tableau.now)) }
+    ensures { IfOk result (λ order. order.items ≡ value_column (program_of lp.now) ∷ take lp.now.columns tableau.now.free ++ take (length lp.now.rows.items) tableau.now.basis) }
 {
-    let Some(row) = row_to_mend(lp, tableau) else {
-        return match column_to_raise(lp, tableau) {
-            Some(_) => None,
-            None => Some(Due::Best),
-        };
-    };
-    match column_by_value(lp, tableau, row) {
-        Some(column) => Some(Due::Pivot(row, column)),
-        None => Some(Due::Empty(row)),
-    }
-}
-
-/// The column that enters in place of a row's: of those where the row is below zero the one by which
-/// the value rises least, and of these the first.
-fn column_by_value(lp: &Lp, tableau: &Tableau, row: usize) -> Option<usize>
-    requires lp { IsLp lp.now }
-    requires kept { IsTableau (program_of lp.now) tableau.now }
-    requires row { row < length lp.now.rows.items }
-    ensures { MatchOption result ((j : ℕ) → j < value_column (program_of lp.now) → pos 0 ≤ℤ form_of tableau.now row j) (λ j. (j < value_column (program_of lp.now)) × (form_of tableau.now row j <ℤ pos 0)) }
-{
-    let value = lp.rows.len();
-    let mut best = None;
-    for column in 0..lp.columns as usize + value {
-        if tableau.number(row, column) < 0 {
-            best = Some(sooner(tableau, row, value, best, column));
-        }
-    }
-    best
-}
-
-/// The column by which the value rises less, in place of a row's.
-fn sooner(tableau: &Tableau, row: usize, value: usize, best: Option<usize>, column: usize) -> usize
-    requires row { row < length tableau.now.basis }
-    requires value { value < length tableau.now.basis }
-    requires column { column < tableau.now.width }
-    requires under { form_of tableau.now row column <ℤ pos 0 }
-    requires best { MatchOption best (Unit {0}) (λ last. (last < tableau.now.width) × (form_of tableau.now row last <ℤ pos 0)) }
-    ensures { (result ≡ column) ⊎ (best ≡ Some result) }
-{
-    let Some(last) = best else {
-        return column;
-    };
-    match compare_rays(tableau, row, column, last, value) {
-        Ordering::Less => column,
-        _ => last,
-    }
+    let mut order = vec![in alloc; lp.columns + lp.rows.len() as u32]?;
+    order.extend_from_slice(&tableau.off()[..lp.columns as usize])?;
+    order.extend_from_slice(&tableau.basis()[..lp.rows.len()])?;
+    Ok(order)
 }

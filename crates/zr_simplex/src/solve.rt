@@ -8,9 +8,12 @@ ghost use Rattle.zr_simplex.specs.Programs.{IsLp, program_of};
 ghost use Rattle.zr_simplex.specs.StuckSteps.{IsWidePivot};
 ghost use Rattle.zr_simplex.specs.Answers.{AreListed, AreOf, IsAnswer, IsBasicAnswer, signed};
 ghost use Rattle.zr_simplex.specs.Causes.{CountsFew, IsCause, IsEndStep, IsReachedAnswer};
-ghost use Rattle.zr_simplex.specs.Tableaus.{basis_of, form_of};
+ghost use Rattle.zr_basis.specs.Orders.{IsOrder};
+ghost use Rattle.zr_basis.specs.Dual.{AreDirectionsPositive};
+ghost use Rattle.zr_basis.specs.Runs.{IsFromSlacks};
+ghost use Rattle.zr_simplex.specs.Tableaus.{basis_of, form_of, order_of};
 ghost use Rattle.zr_simplex.specs.Dues.{IsEnd, IsTableau};
-ghost use Rattle.zr_simplex.specs.Halts.{HasRun, IsMiss, IsMissAfter};
+ghost use Rattle.zr_simplex.specs.Halts.{HasRun, IsFrom, IsMiss, IsMissAfter, origin_of};
 
 use crate::basic::{Miss, point_of, ray_of};
 use crate::binary::{raise, zero_digits};
@@ -18,7 +21,7 @@ use crate::choose::{Due, next_due};
 use crate::listed::listed;
 use crate::pivot::Place;
 use crate::program::{Lp, LpAnswer, Stop};
-use crate::start::start;
+use crate::start::{numbers_from, start};
 use crate::tableau::Tableau;
 use std::alloc::{AllocError, Global};
 use zr_io::{Purse, Unit};
@@ -53,7 +56,7 @@ fn multipliers(
 }
 
 /// The answer at a basis where no pivot is due, or what stops it.
-pub(crate) fn answer(alloc: Global, lp: &Lp, tableau: &Tableau, due: Due) -> Result<LpAnswer, Miss>
+fn answer(alloc: Global, lp: &Lp, tableau: &Tableau, due: Due) -> Result<LpAnswer, Miss>
     requires lp { IsLp lp.now }
     requires kept { IsTableau (program_of lp.now) tableau.now }
     requires end { IsEnd (program_of lp.now) (form_of tableau.now) due }
@@ -111,7 +114,7 @@ fn turn(lp: &Lp, tableau: &mut Tableau, row: usize, column: usize) -> Result<(),
 }
 
 /// One pivot, which is counted when it was made.
-pub(crate) fn counted_turn(
+fn counted_turn(
     lp: &Lp,
     tableau: &mut Tableau,
     purse: &mut Purse,
@@ -139,18 +142,26 @@ pub(crate) fn counted_turn(
     }
 }
 
-/// Pivots by the rules until none is due: what ends the method. They are counted in binary too, with
-/// a digit for each column, as they are fewer than the ways to choose a basis.
-fn run(alloc: Global, lp: &Lp, tableau: &mut Tableau, purse: &mut Purse) -> Result<Due, Miss>
+/// Pivots by the rules, in an order of the columns, until none is due: what ends the method. They
+/// are counted in binary too, with a digit for each column, as they are fewer than the ways to choose
+/// a basis.
+fn run(
+    alloc: Global,
+    lp: &Lp,
+    tableau: &mut Tableau,
+    order: &[u32],
+    purse: &mut Purse,
+) -> Result<Due, Miss>
     requires lp { IsLp lp.now }
     requires kept { IsTableau (program_of lp.now) tableau.old }
-    requires slacks { (i : ℕ) → i ≤ length lp.now.rows.items → basis_of tableau.old i ≡ lp.now.columns + i }
+    requires order { IsOrder (program_of lp.now) (order_of order.now) }
+    requires positive { AreDirectionsPositive (program_of lp.now) (order_of order.now) (basis_of tableau.old) (form_of tableau.old) }
     ensures kept { OnOk result (IsTableau (program_of lp.now) tableau.new) }
     ensures end { IfOk result (IsEnd (program_of lp.now) (form_of tableau.new)) }
-    ensures run { OnOk result (HasRun (program_of lp.now) purse.old purse.new (basis_of tableau.new) (form_of tableau.new)) }
+    ensures run { OnOk result (HasRun (program_of lp.now) (origin_of tableau.old order.now) purse.old purse.new (basis_of tableau.new) (form_of tableau.new)) }
     ensures count { length tableau.new.basis ≡ length lp.now.rows.items + 1 }
     ensures few { CountsFew (program_of lp.now) purse.old purse.new }
-    ensures miss { IfErr result (IsMissAfter (program_of lp.now) purse.old purse.new (basis_of tableau.new)) }
+    ensures miss { IfErr result (IsMissAfter (program_of lp.now) (origin_of tableau.old order.now) purse.old purse.new (basis_of tableau.new)) }
 {
     let mut start = None;
     let mut count = match zero_digits(alloc, lp.columns as usize + lp.rows.len()) {
@@ -158,7 +169,7 @@ fn run(alloc: Global, lp: &Lp, tableau: &mut Tableau, purse: &mut Purse) -> Resu
         Err(_) => return Err(Miss::NoMemory),
     };
     'pivots: loop {
-        let due = match next_due(alloc, lp, tableau, &mut start) {
+        let due = match next_due(alloc, lp, tableau, order, &mut start) {
             Ok(due) => due,
             Err(_) => return Err(Miss::NoMemory),
         };
@@ -178,27 +189,88 @@ fn run(alloc: Global, lp: &Lp, tableau: &mut Tableau, purse: &mut Purse) -> Resu
     }
 }
 
-/// The answer to which pivots by the rules lead, or what stops it.
-pub(crate) fn solve(
+/// The answer to which pivots by the rules lead, in an order of the columns, or what stops it.
+fn solve(
     alloc: Global,
     lp: &Lp,
     tableau: &mut Tableau,
+    order: &[u32],
     purse: &mut Purse,
 ) -> Result<LpAnswer, Miss>
     requires lp { IsLp lp.now }
     requires kept { IsTableau (program_of lp.now) tableau.old }
-    requires slacks { (i : ℕ) → i ≤ length lp.now.rows.items → basis_of tableau.old i ≡ lp.now.columns + i }
+    requires order { IsOrder (program_of lp.now) (order_of order.now) }
+    requires positive { AreDirectionsPositive (program_of lp.now) (order_of order.now) (basis_of tableau.old) (form_of tableau.old) }
     ensures answer { IfOk result (IsAnswer lp.now) }
     ensures kept { OnOk result (IsTableau (program_of lp.now) tableau.new) }
-    ensures basic { IfOk result (IsReachedAnswer (program_of lp.now) purse.old purse.new) }
+    ensures basic { IfOk result (IsBasicAnswer (program_of lp.now) (basis_of tableau.new) (form_of tableau.new)) }
+    ensures reached { IfOk result (IsReachedAnswer (program_of lp.now) (IsFrom (program_of lp.now) (origin_of tableau.old order.now)) purse.old purse.new) }
     ensures count { length tableau.new.basis ≡ length lp.now.rows.items + 1 }
     ensures few { CountsFew (program_of lp.now) purse.old purse.new }
-    ensures miss { IfErr result (IsMissAfter (program_of lp.now) purse.old purse.new (basis_of tableau.new)) }
+    ensures miss { IfErr result (IsMissAfter (program_of lp.now) (origin_of tableau.old order.now) purse.old purse.new (basis_of tableau.new)) }
 {
-    match run(alloc, lp, tableau, purse) {
+    match run(alloc, lp, tableau, order, purse) {
         Ok(due) => answer(alloc, lp, tableau, due),
         Err(miss) => Err(miss),
     }
+}
+
+/// The answer to which pivots by the rules lead from a tableau, in an order of the columns, and the
+/// tableau at the end.
+pub(crate) fn solve_from(
+    alloc: Global,
+    lp: &Lp,
+    tableau: Tableau,
+    order: &[u32],
+    purse: &mut Purse,
+) -> Result<(Tableau, LpAnswer), Stop>
+    requires lp { IsLp lp.now }
+    requires kept { IsTableau (program_of lp.now) tableau }
+    requires order { IsOrder (program_of lp.now) (order_of order.now) }
+    requires positive { AreDirectionsPositive (program_of lp.now) (order_of order.now) (basis_of tableau) (form_of tableau) }
+    ensures kept { IfOk result (λ found. IsTableau (program_of lp.now) found.0) }
+    ensures answer { IfOk result (λ found. IsAnswer lp.now found.1) }
+    ensures basic { IfOk result (λ found. IsBasicAnswer (program_of lp.now) (basis_of found.0) (form_of found.0) found.1) }
+    ensures reached { IfOk result (λ found. IsReachedAnswer (program_of lp.now) (IsFrom (program_of lp.now) (origin_of tableau order.now)) purse.old purse.new found.1) }
+    ensures cause { IfErr result (IsCause (program_of lp.now) (IsFrom (program_of lp.now) (origin_of tableau order.now)) purse.old purse.new) }
+    ensures few { CountsFew (program_of lp.now) purse.old purse.new }
+{
+    let mut tableau = tableau;
+    match solve(alloc, lp, &mut tableau, order, purse) {
+        Ok(found) => Ok((tableau, found)),
+        Err(Miss::NoMemory) => Err(Stop::NoMemory),
+        Err(Miss::Wide(step, wide)) => Err(Stop::Wide(Stuck {
+            basis: tableau.into_basis(),
+            step,
+            wide,
+        })),
+    }
+}
+
+/// The answer to which pivots by the rules lead from the basis of the slacks, and the tableau at the
+/// end.
+pub(crate) fn solve_afresh(
+    alloc: Global,
+    lp: &Lp,
+    purse: &mut Purse,
+) -> Result<(Tableau, LpAnswer), Stop>
+    requires { IsLp lp.now }
+    ensures kept { IfOk result (λ found. IsTableau (program_of lp.now) found.0) }
+    ensures answer { IfOk result (λ found. IsAnswer lp.now found.1) }
+    ensures basic { IfOk result (λ found. IsBasicAnswer (program_of lp.now) (basis_of found.0) (form_of found.0) found.1) }
+    ensures reached { IfOk result (λ found. IsReachedAnswer (program_of lp.now) (IsFromSlacks (program_of lp.now)) purse.old purse.new found.1) }
+    ensures cause { IfErr result (IsCause (program_of lp.now) (IsFromSlacks (program_of lp.now)) purse.old purse.new) }
+    ensures few { CountsFew (program_of lp.now) purse.old purse.new }
+{
+    let tableau = match start(alloc, lp) {
+        Ok(tableau) => tableau,
+        Err(_) => return Err(Stop::NoMemory),
+    };
+    let order = match numbers_from(alloc, 0, lp.columns + lp.rows.len() as u32) {
+        Ok(order) => order,
+        Err(_) => return Err(Stop::NoMemory),
+    };
+    solve_from(alloc, lp, tableau, &order, purse)
 }
 
 /// The least value of a linear program with what shows it, or what shows that no point meets the
@@ -219,21 +291,12 @@ pub(crate) fn solve(
 pub fn solve_lp(alloc: Global, lp: &Lp, purse: &mut Purse) -> Result<LpAnswer, Stop>
     requires { IsLp lp.now }
     ensures answer { IfOk result (IsAnswer lp.now) }
-    ensures basic { IfOk result (IsReachedAnswer (program_of lp.now) purse.old purse.new) }
-    ensures cause { IfErr result (IsCause (program_of lp.now) purse.old purse.new) }
+    ensures basic { IfOk result (IsReachedAnswer (program_of lp.now) (IsFromSlacks (program_of lp.now)) purse.old purse.new) }
+    ensures cause { IfErr result (IsCause (program_of lp.now) (IsFromSlacks (program_of lp.now)) purse.old purse.new) }
     ensures few { CountsFew (program_of lp.now) purse.old purse.new }
 {
-    let mut tableau = match start(alloc, lp) {
-        Ok(tableau) => tableau,
-        Err(_) => return Err(Stop::NoMemory),
-    };
-    match solve(alloc, lp, &mut tableau, purse) {
-        Ok(found) => Ok(found),
-        Err(Miss::NoMemory) => Err(Stop::NoMemory),
-        Err(Miss::Wide(step, wide)) => Err(Stop::Wide(Stuck {
-            basis: tableau.into_basis(),
-            step,
-            wide,
-        })),
+    match solve_afresh(alloc, lp, purse) {
+        Ok((_, found)) => Ok(found),
+        Err(stop) => Err(stop),
     }
 }

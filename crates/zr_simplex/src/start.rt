@@ -91,7 +91,7 @@ pub(crate) fn first_numbers(alloc: Global, lp: &Lp, width: usize) -> Result<Vec<
 }
 
 /// The numbers from one on, so many.
-fn numbers_from(alloc: Global, first: u32, count: u32) -> Result<Vec<u32>, AllocError>
+pub(crate) fn numbers_from(alloc: Global, first: u32, count: u32) -> Result<Vec<u32>, AllocError>
     requires { first + count ≤ 4294967296 }
     ensures len { IfOk result (λ made. length made.items ≡ count) }
     ensures each { IfOk result (λ made. (i : ℕ) → i < count → slice_index made.items i ≡ first + i) }

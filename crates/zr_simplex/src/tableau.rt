@@ -107,6 +107,13 @@ impl Tableau {
         self.free[place] as usize
     }
 
+    /// The columns off the basis.
+    pub(crate) fn off(&self) -> &[u32]
+        ensures { result.now ≡ self.now.free }
+    {
+        &self.free
+    }
+
     /// The basis.
     pub(crate) fn basis(&self) -> &[u32]
         ensures { result.now ≡ self.now.basis }

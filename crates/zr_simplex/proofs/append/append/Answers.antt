@@ -3,10 +3,10 @@ use Rattle.std.proofs.lemmas.Bool.{cases_eq}
 use Rattle.zr_simplex.specs.Programs.{numbers, program_of}
 use Rattle.zr_simplex.specs.Tableaus.{basis_of, form_of, free_of}
 use Rattle.zr_simplex.specs.Dues.{IsTableau}
-use Rattle.zr_simplex.specs.Appends.{IsExpressed, first_rows}
-use Rattle.zr_simplex.proofs.Appended.{appended}
+use Rattle.zr_simplex.specs.Appends.{IsExpressed, IsWithRow, first_rows}
+use Rattle.zr_simplex.proofs.Appended.{appended, appended_basis, appended_dual}
 use Rattle.zr_simplex.proofs.append.append.Goals as goal
-use Rattle.zr_simplex.proofs.append.append.Goals.{In_ok-made}
+use Rattle.zr_simplex.proofs.append.append.Goals.{In_ok-made, In-Ok}
 
 module _ (c : In_ok-made) where
   abbrev rows : ℕ
@@ -88,12 +88,38 @@ with_row-requires-clause-cleared c i h =
     let u = numbers c.in_ok-made.made.items in
     rw c.deref.ensures.value (⊎_elim (λ (s : i ≡ m). ap (λ r. u (basis_of c.args.tableau r)) s ∙ ap u k.form.value ∙ (expressed at).value) (λ (a : i ≢ m). (expressed at).cleared i (omega (arith, h, a, k.count))) (cases_eq i m))
 
-pub returns-in-Ok : goal.returns-in-Ok
-returns-in-Ok c =
-    let at = (goal.at.returns-in-Ok c).In_ok-made in
-    let q = program_of c.args.lp.now in
-    let m = length c.args.lp.now.rows.items - 1 in
-    let k = kept at in
-    let more : q.rows ≡ suc m = omega (arith, c.requires.some) in
-    let row = rw c.deref.ensures.value at (c.in-Ok.ensures m q.columns (q.columns + m) k.count k.free_count k.width) in
-    appended q m more c.args.tableau c.in-Ok.made (numbers c.in_ok-made.made.items) k (expressed at) row
+module _ (c : In-Ok) where
+  abbrev rows_before : ℕ
+  rows_before = length c.args.lp.now.rows.items - 1
+
+  before : IsTableau (first_rows (program_of c.args.lp.now) (length c.args.lp.now.rows.items - 1)) c.args.tableau
+  before = c.requires.kept (length c.args.lp.now.rows.items - 1) (omega (arith, c.requires.some))
+
+  more : length c.args.lp.now.rows.items ≡ suc (length c.args.lp.now.rows.items - 1)
+  more = omega (arith, c.requires.some)
+
+  clear : IsExpressed (program_of c.args.lp.now) (length c.args.lp.now.rows.items - 1) (length c.args.lp.now.rows.items - 1) (basis_of c.args.tableau) (form_of c.args.tableau) (numbers c.in_ok-made.made.items)
+  clear =
+      let e : c.len-rows.result ≡ length c.args.lp.now.rows.items = search rules in
+      let less : c.len-rows.result - 1 ≡ length c.args.lp.now.rows.items - 1 = omega (arith, e) in
+      rw less at c.in_ok-made.ensures.expressed
+
+  row : IsWithRow (length c.args.lp.now.rows.items - 1) c.args.lp.now.columns (c.args.lp.now.columns + (length c.args.lp.now.rows.items - 1)) c.args.tableau c.in-Ok.made (numbers c.in_ok-made.made.items)
+  row =
+      rw c.deref.ensures.value at (c.in-Ok.ensures (length c.args.lp.now.rows.items - 1) c.args.lp.now.columns (c.args.lp.now.columns + (length c.args.lp.now.rows.items - 1)) before.count before.free_count before.width)
+
+pub returns-in-Ok-clause-kept : goal.returns-in-Ok-clause-kept
+returns-in-Ok-clause-kept c =
+    let at = (goal.at.returns-in-Ok-clause-kept c).In-Ok in
+    appended (program_of c.args.lp.now) (length c.args.lp.now.rows.items - 1) (more at) c.args.tableau c.in-Ok.made (numbers c.in_ok-made.made.items) (before at) (clear at) (row at)
+
+pub returns-in-Ok-clause-dual : goal.returns-in-Ok-clause-dual
+returns-in-Ok-clause-dual c =
+    let at = (goal.at.returns-in-Ok-clause-dual c).In-Ok in
+    let dual = c.requires.dual (length c.args.lp.now.rows.items - 1) (omega (arith, c.requires.some)) in
+    appended_dual (program_of c.args.lp.now) (length c.args.lp.now.rows.items - 1) (more at) c.args.tableau c.in-Ok.made (numbers c.in_ok-made.made.items) (before at) (clear at) (row at) dual
+
+pub returns-in-Ok-clause-basis : goal.returns-in-Ok-clause-basis
+returns-in-Ok-clause-basis c =
+    let at = (goal.at.returns-in-Ok-clause-basis c).In-Ok in
+    appended_basis (program_of c.args.lp.now) (length c.args.lp.now.rows.items - 1) (more at) c.args.tableau c.in-Ok.made (numbers c.in_ok-made.made.items) (before at) (clear at) (row at)

@@ -3,6 +3,7 @@ use Rattle.zr_basis.specs.BasicForms.{value_column}
 use Rattle.zr_basis.specs.Choices.{choose}
 use Rattle.zr_simplex.specs.Programs.{program_of}
 use Rattle.zr_simplex.specs.Binaries.{number_of}
+use Rattle.zr_simplex.specs.Halts.{origin_of}
 use Rattle.zr_simplex.specs.Tableaus.{basis_of, form_of}
 use Rattle.zr_simplex.specs.Dues.{IsTableau}
 use Rattle.zr_simplex.proofs.Going.{IsImproving, IsMending}
@@ -17,7 +18,7 @@ invariant-pivots l =
     record {
       kept : IsTableau p l.tableau;
       digits : length l.count.items ≡ value_column p;
-      going : MatchOption l.start (IsMending p l.fn.purse l.purse n basis form) (λ kept. IsImproving p l.fn.purse l.purse n basis form kept.items);
+      going : MatchOption l.start (IsMending p (origin_of l.fn.tableau l.order) l.fn.purse l.purse n basis form) (λ kept. IsImproving p (origin_of l.fn.tableau l.order) l.fn.purse l.purse n basis form kept.items);
     }
 
 abbrev pub decreases-pivots : goal.decreases-pivots

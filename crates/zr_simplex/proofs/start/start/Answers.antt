@@ -2,7 +2,7 @@ use Rattle.std.proofs.Common.{rules, ◌≡◌, ◌<◌, ◌≤◌, ◌+◌, ℕ
 use Rattle.zr_simplex.specs.Programs.{program_of}
 use Rattle.zr_simplex.specs.RowSteps.{IsFirstEquation}
 use Rattle.zr_simplex.specs.Tableaus.{basis_of, form_in, form_of, row_in}
-use Rattle.zr_simplex.proofs.Begin.{start_form, start_complete}
+use Rattle.zr_simplex.proofs.Begin.{start_form}
 use Rattle.zr_simplex.proofs.First.{AreFirst, are_columns, first_start}
 use Rattle.zr_simplex.proofs.start.start.Goals as goal
 use Rattle.zr_simplex.proofs.start.start.Goals.{In_ok-stands}
@@ -52,5 +52,4 @@ returns-clause-kept c =
       free_count = ap length made.free ∙ first.free_long;
       right = ap (λ f. slice_index f n) made.free ∙ first.last;
       form = start_form p (form_of t) starts last (basis_of t) basis;
-      complete = start_complete p (form_of t) starts last;
     }

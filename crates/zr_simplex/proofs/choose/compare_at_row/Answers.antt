@@ -2,7 +2,7 @@ use Rattle.std.proofs.Common.{rules, ◌≡◌, arith, ℤ, pos, neg_ℤ, ◌-�
 use Rattle.std.proofs.lemmas.Int.{ints, to_z-of_z}
 use Rattle.std.specs.Int.{w128}
 use Rattle.std.specs.Ordering.{int_cmp}
-use Rattle.zr_simplex.proofs.choose.compare_rays.Goals as goal
+use Rattle.zr_simplex.proofs.choose.compare_at_row.Goals as goal
 
 from_zero : (x : ℤ) → pos 0 -ℤ x ≡ neg_ℤ x
 from_zero x = omega (arith, ints)
