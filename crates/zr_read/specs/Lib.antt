@@ -1,7 +1,7 @@
-pub mod Faults
-pub mod Values
-pub mod Names
-pub mod Parts
+pub mod Formats
+pub mod Variables
+pub mod Rows
+pub mod Costs
+pub mod Followers
 pub mod Passes
 pub mod Texts
-pub mod Canonical

@@ -1,109 +1,109 @@
--- What stands in a game's value: two passes over its players, the first for names and variables, the second for rows and costs.
-use Rattle.std.specs.Prelude.{ℕ, List, [], ◌∷◌, ◌++◌, map, length, string_bytes, bytes_eq, Ok, codes, if◌then◌else◌, ⊤}
-use Rattle.serde_json.specs.Data.{Data, Items}
-use Rattle.zr_base.specs.Terms.{Terms}
-use Rattle.zr_base.specs.Rows.{RowOf, row_of}
-use Rattle.zr_game.specs.declared.player.CrossTerm.{CrossTerm}
-use Rattle.zr_game.specs.Players.{Name, VarOf, PlayerOf, GameOf, var_of}
-use Rattle.zr_read.specs.declared.fault.GameFault.TheVariants.{Format}
-use Rattle.zr_read.specs.declared.players.Heading.{Heading}
-use Rattle.zr_read.specs.declared.players.Body.{Body}
-use Rattle.zr_read.specs.Faults.{Read, fault, ◌>>=◌}
-use Rattle.zr_read.specs.Values.{text_in, object_in, needed, optional, listed, each}
-use Rattle.zr_read.specs.Names.{new_name_in, names_at, var_name}
-use Rattle.zr_read.specs.Parts.{variables_in, terms_in, rows_in, cross_in}
+-- What stands in a game's value: two passes over its players, the first for names and variables,
+-- the second for rows, pairs and costs.
+use Rattle.std.specs.Prelude.{ℕ, List, [], ◌∷◌, ◌++◌, map, length, Ok, codes}
+use Rattle.serde_json.specs.Data.{Data}
+use Rattle.zr_base.specs.Rows.{RowOf}
+use Rattle.zr_game.specs.Players.{Name, VarOf, PairOf, PlayerOf}
+use Rattle.zr_source.specs.Sources.{FollowerOf, LeaderOf, SourceOf}
+use Rattle.zr_source.specs.Names.{var_name}
+use Rattle.zr_value.specs.Faults.{Read, under, ◌>>=◌}
+use Rattle.zr_value.specs.Values.{object_in, needed, optional, listed, each}
+use Rattle.zr_value.specs.Names.{new_name_in, names_at}
+use Rattle.zr_read.specs.declared.format.GameFormat.{GameFormat}
+use Rattle.zr_read.specs.declared.format.GameFormat.TheVariants.{Second}
+use Rattle.zr_read.specs.declared.format.Aim.{Aim}
+use Rattle.zr_read.specs.Formats.{aim_of_in, format_in}
+use Rattle.zr_read.specs.Variables.{variables_in}
+use Rattle.zr_read.specs.Rows.{rows_in, pairs_in}
+use Rattle.zr_read.specs.Costs.{CostsOf, costs_in}
+use Rattle.zr_read.specs.Followers.{FollowerHeadingOf, MembersOf, alone, follower_headings_in, followers_in}
 
 -- ---- the first pass
 
--- a player's name and variables
+-- a player's name, aim, variables and followers, and its value
 pub record HeadingOf : Type 0 where
   pub name : Name
-  pub vars : List VarOf
-
-abbrev pub heading_of : Heading → HeadingOf
-heading_of h = record { name = string_bytes h.name; vars = map var_of h.vars.items }
+  pub aim : Aim
+  pub members : MembersOf
+  pub value : Data
 
 abbrev pub heading_name : HeadingOf → Name
 heading_name h = h.name
 
 abbrev pub variable_names : HeadingOf → List Name
-variable_names h = map var_name h.vars
+variable_names h = map var_name h.members.vars
 
 -- the heading of a player after those of these names
-abbrev pub heading_in : List Name → Data → Read HeadingOf
-heading_in before d = do
+abbrev pub heading_in : GameFormat → List Name → Data → Read HeadingOf
+heading_in f before d = do
   o ← object_in d
   name ← needed (codes "name") (new_name_in before) d
-  vars ← needed (codes "vars") variables_in d
-  Ok (record { name = name; vars = vars })
+  aim ← aim_of_in f d
+  own ← needed (codes "vars") (variables_in f) d
+  members ← optional (codes "followers") (alone own) (follower_headings_in own) d
+  Ok (record { name = name; aim = aim; members = members; value = d })
 
-abbrev pub add_heading : List HeadingOf → Data → Read (List HeadingOf)
-add_heading before d = do
-  h ← heading_in (map heading_name before) d
+-- one player more; none may have the name `taken`
+abbrev pub add_heading : GameFormat → Name → List HeadingOf → Data → Read (List HeadingOf)
+add_heading f taken before d = do
+  h ← heading_in f (taken ∷ map heading_name before) d
   Ok (before ++ h ∷ [])
 
 -- ---- the second pass
 
--- a player's rows and costs
-pub record BodyOf : Type 0 where
-  pub rows : List RowOf
-  pub cost : Terms
-  pub cross : List CrossTerm
+abbrev pub player_of_parts : HeadingOf → List RowOf → List PairOf → CostsOf → PlayerOf
+player_of_parts h rows pairs costs = record {
+  name = h.name;
+  vars = h.members.vars;
+  rows = rows;
+  pairs = pairs;
+  cost = costs.cost;
+  cross = costs.cross;
+  others = costs.others;
+}
 
-abbrev pub body_of : Body → BodyOf
-body_of b = record { rows = map row_of b.rows.items; cost = b.cost.items; cross = b.cross.items }
+-- player i, with at most `most` cross terms
+abbrev pub player_in : GameFormat → ℕ → List Name → List (List Name) → ℕ → HeadingOf → Read PlayerOf
+player_in f most players variables i h = do
+  rows ← optional (codes "rows") [] (rows_in f 256 (names_at variables i)) h.value
+  pairs ← optional (codes "pairs") [] (pairs_in h.members.vars) h.value
+  costs ← costs_in most players variables i h.aim h.value
+  Ok (player_of_parts h rows pairs costs)
 
--- the body of player i
-abbrev pub body_in : List Name → List (List Name) → ℕ → Data → Read BodyOf
-body_in players variables i d = do
-  rows ← optional (codes "rows") [] (rows_in (names_at variables i)) d
-  cost ← optional (codes "cost") [] (terms_in (names_at variables i)) d
-  cross ← optional (codes "cross") [] (cross_in players variables i) d
-  Ok (record { rows = rows; cost = cost; cross = cross })
+abbrev pub leader_in : GameFormat → ℕ → List Name → List (List Name) → ℕ → HeadingOf → Read LeaderOf
+leader_in f most players variables i h = do
+  base ← player_in f most players variables i h
+  followers ← under (codes "followers")
+      (followers_in f (names_at variables i) h.members.followers)
+  Ok (record { base = base; followers = followers })
 
-abbrev pub add_body : List Name → List (List Name) → List BodyOf → Data → Read (List BodyOf)
-add_body players variables before d = do
-  b ← body_in players variables (length before) d
-  Ok (before ++ b ∷ [])
+abbrev pub add_leader : GameFormat → ℕ → List Name → List (List Name) → List LeaderOf → HeadingOf
+    → Read (List LeaderOf)
+add_leader f most players variables before h = do
+  leader ← leader_in f most players variables (length before) h
+  Ok (before ++ leader ∷ [])
 
 -- ---- the game
 
--- a player without pairs and terms in the others' variables
-abbrev pub player_from : HeadingOf → BodyOf → PlayerOf
-player_from h b = record {
-  name = h.name;
-  vars = h.vars;
-  rows = b.rows;
-  pairs = [];
-  cost = b.cost;
-  cross = b.cross;
-  others = [];
-}
+-- both passes over the players' values
+abbrev pub leaders_in : GameFormat → ℕ → Name → List Data → Read SourceOf
+leaders_in f cross taken ds = do
+  headings ← each (add_heading f taken) 0 [] ds
+  each (add_leader f cross (map heading_name headings) (map variable_names headings)) 0 [] headings
 
--- each heading with its body
-abbrev pub players_from : List HeadingOf → List BodyOf → GameOf
-players_from (h ∷ hs) (b ∷ bs) = player_from h b ∷ players_from hs bs
-players_from [] bs = []
-players_from (h ∷ hs) [] = []
+-- 1 to `most` players, each with at most `cross` cross terms, none with the name `taken`
+abbrev pub players_in : GameFormat → ℕ → ℕ → Name → Data → Read SourceOf
+players_in f most cross taken d = do
+  ds ← listed 1 most d
+  leaders_in f cross taken ds
 
-abbrev pub both_passes : Items → Read GameOf
-both_passes ds = do
-  headings ← each add_heading 0 [] ds
-  bodies ← each (add_body (map heading_name headings) (map variable_names headings)) 0 [] ds
-  Ok (players_from headings bodies)
+-- the member `players`
+abbrev pub players_of_in : GameFormat → ℕ → ℕ → Name → Data → Read SourceOf
+players_of_in f most cross taken d = needed (codes "players") (players_in f most cross taken) d
 
-abbrev pub players_in : Data → Read GameOf
-players_in d = do
-  ds ← listed 1 16 d
-  both_passes ds
-
-abbrev pub format_in : Data → Read ⊤
-format_in d = do
-  s ← text_in d
-  if bytes_eq s (codes "zero-game/1") then Ok tt else fault Format
-
-abbrev pub game_in : Data → Read GameOf
-game_in d = do
+-- a game's value
+abbrev pub source_in : Data → Read SourceOf
+source_in d = do
   o ← object_in d
   f ← needed (codes "format") format_in d
-  needed (codes "players") players_in d
+  players_of_in f 16 65536 [] d

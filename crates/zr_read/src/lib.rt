@@ -1,17 +1,6 @@
-//! Reads the text of a game: the game, or the first fault and where it stands.
+//! Reads the text of a game: the game as it stands there, or the first fault and where it is.
 #![tactic(auto)]
 
-mod cross;
-mod fault;
-mod game;
-mod laws;
-mod names;
-mod players;
-mod rows;
-mod terms;
-mod values;
-mod variables;
+mod format;
 
-pub use fault::{GameError, GameFault};
-pub use game::read_game;
-pub use laws::{law_of_reading_back, law_of_texts};
+pub use format::{Aim, GameFormat};

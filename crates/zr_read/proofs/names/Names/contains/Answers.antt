@@ -1,6 +1,0 @@
-use Rattle.std.proofs.Common.{◌∙◌, sym, bytes_eq}
-use Rattle.zr_read.proofs.Borrowed.{list_any-texts}
-use Rattle.zr_read.proofs.names.Names.contains.Goals as goal
-
-pub returns : goal.returns
-returns c = rw (← c.self.view_is) (c.contains.ensures ∙ sym (list_any-texts (bytes_eq c.args.name.now) c.self.inside.set.keys))

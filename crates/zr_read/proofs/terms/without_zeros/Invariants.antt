@@ -1,6 +1,0 @@
-use Rattle.std.proofs.Common.{◌≡◌, ◌++◌, filter}
-use Rattle.zr_read.specs.Parts.{is_term}
-use Rattle.zr_read.proofs.terms.without_zeros.Given as goal
-
-abbrev pub invariant-loop-v : goal.invariant-loop-v
-invariant-loop-v l = l.kept.items ++ filter is_term l.v-iterator ≡ filter is_term l.fn.all.entries

@@ -1,0 +1,16 @@
+//! Reads the parts of a JSON value: numbers, names, lists and terms, each or its first fault and
+//! where it stands.
+#![tactic(auto)]
+
+mod fault;
+mod names;
+mod terms;
+mod values;
+
+pub use fault::{GameError, GameFault, at, missing, missing_item, numbered, placed};
+pub use names::{Known, Names, read_known, read_known_of, read_name_member, read_new_name};
+pub use terms::read_terms;
+pub use values::{
+    read_items, read_listed, read_name, read_number, read_object, read_text, read_truth,
+    read_tuple, read_whole,
+};
