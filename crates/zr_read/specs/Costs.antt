@@ -11,11 +11,11 @@ use Rattle.zr_game.specs.Players.{Name}
 use Rattle.zr_game.specs.Forms.{place_order}
 use Rattle.zr_value.specs.declared.fault.GameFault.TheVariants.{Kind, Twice, OwnCross}
 use Rattle.zr_value.specs.Faults.{Read, fault, ◌>>=◌}
-use Rattle.zr_value.specs.Values.{number_in, items_in, optional, part, listed, tuple, each}
+use Rattle.zr_value.specs.Values.{items_in, optional, part, listed, tuple, each}
 use Rattle.zr_value.specs.Names.{known_in, names_at}
 use Rattle.zr_value.specs.Terms.{taken, is_term, terms_in}
 use Rattle.zr_read.specs.declared.format.Aim.{Aim}
-use Rattle.zr_read.specs.Formats.{aimed}
+use Rattle.zr_read.specs.Formats.{aimed, cost_number_in}
 
 -- ---- cross terms
 
@@ -40,14 +40,14 @@ other_variable_in names own j before d = do
   if taken triple_order before (own, j, v) then fault Twice else Ok v
 
 -- with one cross term of player i more, at its place
-abbrev pub add_cross : List Name → List (List Name) → ℕ → List (Triple × ℤ) → Data
+abbrev pub add_cross : List Name → List (List Name) → ℕ → Aim → List (Triple × ℤ) → Data
     → Read (List (Triple × ℤ))
-add_cross players variables i before d = do
+add_cross players variables i aim before d = do
   four ← tuple 4 d
   own ← part 0 (known_in (names_at variables i)) d
   j ← part 1 (other_player_in players i) d
   v ← part 2 (other_variable_in (names_at variables j) own j before) d
-  z ← part 3 number_in d
+  z ← part 3 (cost_number_in aim) d
   Ok (insert_entry triple_order before (own, j, v) z)
 
 abbrev pub cross_of : Triple × ℤ → CrossTerm
@@ -57,8 +57,8 @@ cross_of t = record { own = t.0.0; player = t.0.1; var = t.0.2; coef = t.1 }
 abbrev pub cross_in : ℕ → List Name → List (List Name) → ℕ → Aim → Data → Read (List CrossTerm)
 cross_in most players variables i aim d = do
   ds ← listed 0 most d
-  all ← each (add_cross players variables i) 0 [] ds
-  Ok (map cross_of (aimed aim (filter is_term all)))
+  all ← each (add_cross players variables i aim) 0 [] ds
+  Ok (map cross_of (filter is_term all))
 
 -- ---- terms in the others' variables
 
@@ -91,15 +91,13 @@ single_variable_in names j before d = do
   if taken place_order before (j, v) then fault Twice else Ok v
 
 -- with one term in one variable more, for player i
-abbrev pub add_single : List Name → List (List Name) → ℕ → OthersOf → Data → Read OthersOf
-add_single players variables i before d = do
+abbrev pub add_single : List Name → List (List Name) → ℕ → Aim → List (Place × ℤ) → Data
+    → Read (List (Place × ℤ))
+add_single players variables i aim before d = do
   j ← part 0 (other_player_in players i) d
-  v ← part 1 (single_variable_in (names_at variables j) j before.singles) d
-  z ← part 2 number_in d
-  Ok (record {
-    singles = insert_entry place_order before.singles (j, v) z;
-    products = before.products;
-  })
+  v ← part 1 (single_variable_in (names_at variables j) j before) d
+  z ← part 2 (cost_number_in aim) d
+  Ok (insert_entry place_order before (j, v) z)
 
 -- the number of another player than i and the first one
 abbrev pub second_player_in : List Name → ℕ → ℕ → Data → Read ℕ
@@ -114,24 +112,30 @@ second_variable_in names first j before d = do
   if taken places_order before (in_order first (j, v)) then fault Twice else Ok v
 
 -- with one product more, for player i
-abbrev pub add_product : List Name → List (List Name) → ℕ → OthersOf → Data → Read OthersOf
-add_product players variables i before d = do
+abbrev pub add_product : List Name → List (List Name) → ℕ → Aim → List (Places × ℤ) → Data
+    → Read (List (Places × ℤ))
+add_product players variables i aim before d = do
   j ← part 0 (other_player_in players i) d
   v ← part 1 (known_in (names_at variables j)) d
   k ← part 2 (second_player_in players i j) d
-  w ← part 3 (second_variable_in (names_at variables k) (j, v) k before.products) d
-  z ← part 4 number_in d
-  Ok (record {
-    singles = before.singles;
-    products = insert_entry places_order before.products (in_order (j, v) (k, w)) z;
-  })
+  w ← part 3 (second_variable_in (names_at variables k) (j, v) k before) d
+  z ← part 4 (cost_number_in aim) d
+  Ok (insert_entry places_order before (in_order (j, v) (k, w)) z)
+
+abbrev pub with_singles : OthersOf → List (Place × ℤ) → Read OthersOf
+with_singles before singles = Ok (record { singles = singles; products = before.products })
+
+abbrev pub with_products : OthersOf → List (Places × ℤ) → Read OthersOf
+with_products before products = Ok (record { singles = before.singles; products = products })
 
 -- a term of three parts has one variable, and one of five parts two
-abbrev pub add_other : List Name → List (List Name) → ℕ → OthersOf → Data → Read OthersOf
-add_other players variables i before d = do
+abbrev pub add_other : List Name → List (List Name) → ℕ → Aim → OthersOf → Data → Read OthersOf
+add_other players variables i aim before d = do
   ds ← items_in d
-  if length ds == 3 then add_single players variables i before d
-      else (if length ds == 5 then add_product players variables i before d else fault Kind)
+  if length ds == 3 then add_single players variables i aim before.singles d >>= with_singles before
+      else (if length ds == 5
+      then add_product players variables i aim before.products d >>= with_products before
+      else fault Kind)
 
 abbrev pub single_of : Place × ℤ → Other
 single_of t = record { first = t.0; second = None; coef = t.1 }
@@ -143,9 +147,8 @@ product_of t = record { first = t.0.0; second = Some t.0.1; coef = t.1 }
 abbrev pub others_in : List Name → List (List Name) → ℕ → Aim → Data → Read (List Other)
 others_in players variables i aim d = do
   ds ← listed 0 65536 d
-  all ← each (add_other players variables i) 0 no_others ds
-  Ok (map single_of (aimed aim (filter is_term all.singles))
-      ++ map product_of (aimed aim (filter is_term all.products)))
+  all ← each (add_other players variables i aim) 0 no_others ds
+  Ok (map single_of (filter is_term all.singles) ++ map product_of (filter is_term all.products))
 
 -- ---- all costs
 

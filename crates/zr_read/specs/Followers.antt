@@ -8,12 +8,12 @@ use Rattle.zr_source.specs.Sources.{FollowerOf}
 use Rattle.zr_source.specs.Names.{var_name}
 use Rattle.zr_value.specs.declared.fault.GameFault.TheVariants.{UnknownName, OwnCross, Twice, Count}
 use Rattle.zr_value.specs.Faults.{Read, fault, ◌>>=◌}
-use Rattle.zr_value.specs.Values.{number_in, object_in, items_in, needed, optional, part, listed, tuple, each}
+use Rattle.zr_value.specs.Values.{object_in, items_in, needed, optional, part, listed, tuple, each}
 use Rattle.zr_value.specs.Names.{new_name_in, known_in}
 use Rattle.zr_value.specs.Terms.{taken, is_term, terms_in}
 use Rattle.zr_read.specs.declared.format.GameFormat.{GameFormat}
 use Rattle.zr_read.specs.declared.format.Aim.{Aim}
-use Rattle.zr_read.specs.Formats.{aim_of_in, aimed}
+use Rattle.zr_read.specs.Formats.{aim_of_in, aimed, cost_number_in}
 use Rattle.zr_read.specs.Rows.{rows_in}
 use Rattle.zr_read.specs.Costs.{Place}
 
@@ -88,13 +88,13 @@ given_variable_in names h own before d = do
       else (if taken place_order before (own, v) then fault Twice else Ok v)
 
 -- with one cross term of the follower more, at its place
-abbrev pub add_follower_cross : List Name → FollowerHeadingOf → List (Place × ℤ) → Data
+abbrev pub add_follower_cross : List Name → FollowerHeadingOf → Aim → List (Place × ℤ) → Data
     → Read (List (Place × ℤ))
-add_follower_cross names h before d = do
+add_follower_cross names h aim before d = do
   three ← tuple 3 d
   own ← part 0 (own_variable_in names h) d
   v ← part 1 (given_variable_in names h own before) d
-  z ← part 2 number_in d
+  z ← part 2 (cost_number_in aim) d
   Ok (insert_entry place_order before (own, v) z)
 
 abbrev pub follower_cross_of : Place × ℤ → ℕ × ℕ × ℤ
@@ -104,8 +104,8 @@ follower_cross_of t = (t.0.0, t.0.1, t.1)
 abbrev pub follower_cross_in : List Name → FollowerHeadingOf → Aim → Data → Read (List (ℕ × ℕ × ℤ))
 follower_cross_in names h aim d = do
   ds ← listed 0 65536 d
-  all ← each (add_follower_cross names h) 0 [] ds
-  Ok (map follower_cross_of (aimed aim (filter is_term all)))
+  all ← each (add_follower_cross names h aim) 0 [] ds
+  Ok (map follower_cross_of (filter is_term all))
 
 -- a follower of a leader with variables of these names
 abbrev pub follower_in : GameFormat → List Name → FollowerHeadingOf → Read FollowerOf

@@ -1,9 +1,11 @@
 -- The two formats of a game's text, and what only the second has.
-use Rattle.std.specs.Prelude.{ℤ, neg_ℤ, List, ℕ, map, bytes_eq, Ok, codes, if◌then◌else◌}
+use Rattle.std.specs.Prelude.{ℤ, neg_ℤ, List, ℕ, bytes_eq, Ok, codes, if◌then◌else◌}
 use Rattle.serde_json.specs.Data.{Data}
+use Rattle.zr_base.specs.Terms.{Terms}
 use Rattle.zr_value.specs.declared.fault.GameFault.TheVariants.{Format}
 use Rattle.zr_value.specs.Faults.{Read, fault, ◌>>=◌}
-use Rattle.zr_value.specs.Values.{text_in, optional}
+use Rattle.zr_value.specs.Values.{text_in, number_in, optional}
+use Rattle.zr_value.specs.Terms.{opposite}
 use Rattle.zr_read.specs.declared.format.GameFormat.{GameFormat}
 use Rattle.zr_read.specs.declared.format.GameFormat.TheVariants.{First, Second}
 use Rattle.zr_read.specs.declared.format.Aim.{Aim}
@@ -37,5 +39,12 @@ abbrev pub by_aim : Aim → ℤ → ℤ
 by_aim Min z = z
 by_aim Max z = neg_ℤ z
 
-abbrev pub aimed : {K : Type 0} → Aim → List (K × ℤ) → List (K × ℤ)
-aimed aim ts = map (λ t. (t.0, by_aim aim t.1)) ts
+abbrev pub cost_number_in : Aim → Data → Read ℤ
+cost_number_in aim d = do
+  z ← number_in d
+  Ok (by_aim aim z)
+
+-- the terms of a cost
+abbrev pub aimed : Aim → Terms → Terms
+aimed Min ts = ts
+aimed Max ts = opposite ts

@@ -10,7 +10,6 @@ use Rattle.zr_value.specs.Faults.{Read, under, ◌>>=◌}
 use Rattle.zr_value.specs.Values.{object_in, needed, optional, listed, each}
 use Rattle.zr_value.specs.Names.{new_name_in, names_at}
 use Rattle.zr_read.specs.declared.format.GameFormat.{GameFormat}
-use Rattle.zr_read.specs.declared.format.GameFormat.TheVariants.{Second}
 use Rattle.zr_read.specs.declared.format.Aim.{Aim}
 use Rattle.zr_read.specs.Formats.{aim_of_in, format_in}
 use Rattle.zr_read.specs.Variables.{variables_in}
@@ -66,7 +65,7 @@ player_of_parts h rows pairs costs = record {
 abbrev pub player_in : GameFormat → ℕ → List Name → List (List Name) → ℕ → HeadingOf → Read PlayerOf
 player_in f most players variables i h = do
   rows ← optional (codes "rows") [] (rows_in f 256 (names_at variables i)) h.value
-  pairs ← optional (codes "pairs") [] (pairs_in h.members.vars) h.value
+  pairs ← optional (codes "pairs") [] (pairs_in (names_at variables i) h.members.vars) h.value
   costs ← costs_in most players variables i h.aim h.value
   Ok (player_of_parts h rows pairs costs)
 

@@ -1,5 +1,5 @@
 -- Rows and pairs over the variables of a player and its followers.
-use Rattle.std.specs.Prelude.{ℕ, ◌||◌, nat_le, ℤ, pos, neg_ℤ, Bool, false, List, [], ◌∷◌, ◌++◌, map, is_some, slice_get, Option, Some, None, Ok, codes, if◌then◌else◌}
+use Rattle.std.specs.Prelude.{ℕ, ◌||◌, nat_le, ℤ, pos, neg_ℤ, Bool, false, List, [], ◌∷◌, ◌++◌, is_some, slice_get, Option, Some, None, Ok, codes, if◌then◌else◌}
 use Rattle.std.specs.List.{sum_by}
 use Rattle.std.specs.Ordering.{int_eq}
 use Rattle.serde_json.specs.Data.{Data}
@@ -7,7 +7,6 @@ use Rattle.serde_json.specs.Find.{get}
 use Rattle.zr_base.specs.Terms.{Terms}
 use Rattle.zr_base.specs.Rows.{RowOf}
 use Rattle.zr_game.specs.Players.{Name, VarOf, PairOf}
-use Rattle.zr_source.specs.Names.{var_name}
 use Rattle.zr_value.specs.declared.fault.GameFault.TheVariants.{Missing, Twice, Count, PairLow}
 use Rattle.zr_value.specs.Faults.{Read, fault, under, ◌>>=◌}
 use Rattle.zr_value.specs.Values.{number_in, object_in, items_in, needed, optional, listed, each}
@@ -77,26 +76,26 @@ abbrev pub is_from_zero : Option VarOf → Bool
 is_from_zero None = false
 is_from_zero (Some var) = is_zero var.low
 
--- the variable of a pair
-abbrev pub pair_variable_in : List VarOf → Data → Read ℕ
-pair_variable_in vars d = do
-  v ← known_in (map var_name vars) d
+-- the variable of a pair, of variables with these names
+abbrev pub pair_variable_in : List Name → List VarOf → Data → Read ℕ
+pair_variable_in names vars d = do
+  v ← known_in names d
   if is_from_zero (slice_get vars v) then Ok v else fault PairLow
 
-abbrev pub pair_in : List VarOf → Data → Read PairOf
-pair_in vars d = do
+abbrev pub pair_in : List Name → List VarOf → Data → Read PairOf
+pair_in names vars d = do
   o ← object_in d
-  v ← needed (codes "var") (pair_variable_in vars) d
-  terms ← needed (codes "terms") (terms_in (map var_name vars)) d
+  v ← needed (codes "var") (pair_variable_in names vars) d
+  terms ← needed (codes "terms") (terms_in names) d
   add ← needed (codes "add") number_in d
   Ok (record { var = v; coef = terms; add = add })
 
-abbrev pub add_pair : List VarOf → List PairOf → Data → Read (List PairOf)
-add_pair vars before d = do
-  p ← pair_in vars d
+abbrev pub add_pair : List Name → List VarOf → List PairOf → Data → Read (List PairOf)
+add_pair names vars before d = do
+  p ← pair_in names vars d
   Ok (before ++ p ∷ [])
 
-abbrev pub pairs_in : List VarOf → Data → Read (List PairOf)
-pairs_in vars d = do
+abbrev pub pairs_in : List Name → List VarOf → Data → Read (List PairOf)
+pairs_in names vars d = do
   ds ← listed 0 32 d
-  each (add_pair vars) 0 [] ds
+  each (add_pair names vars) 0 [] ds
