@@ -1,12 +1,13 @@
 ghost use Rattle.std.specs.Prelude.{◌≡◌};
 ghost use Rattle.serde_json.specs.View.{view};
 ghost use Rattle.zr_value.specs.Faults.{Reads};
-ghost use Rattle.zr_read.specs.Formats.{aim_in, aim_of_in, by_aim, format_in};
+ghost use Rattle.zr_value.specs.Values.{part};
+ghost use Rattle.zr_read.specs.Formats.{aim_in, aim_of_in, by_aim, cost_number_in, format_in};
 ghost use Rattle.zr_game.specs.Forms.{IsNumber};
 
 use serde_json::Value;
 use std::alloc::Global;
-use zr_value::{GameError, GameFault, at, placed, read_text};
+use zr_value::{GameError, GameFault, at, missing_item, numbered, placed, read_number, read_text};
 
 /// The format of a game's text: `zero-game/1` or `zero-game/2`.
 ///
@@ -70,5 +71,27 @@ pub(crate) fn read_aim_member(
     match (format, object.get("aim")) {
         (GameFormat::Second, Some(value)) => placed(alloc, "aim", read_aim(alloc, value)),
         _ => Ok(Aim::Min),
+    }
+}
+
+/// A number of a cost under an aim.
+fn read_cost_number(alloc: Global, value: &Value, aim: Aim) -> Result<i64, GameError>
+    ensures { Reads (λ z. z) result (cost_number_in aim (view value.now)) }
+{
+    Ok(aim.number(read_number(alloc, value)?))
+}
+
+/// Part k of a list, which is a number of a cost under an aim.
+pub(crate) fn read_cost_number_part(
+    alloc: Global,
+    list: &Value,
+    k: usize,
+    aim: Aim,
+) -> Result<i64, GameError>
+    ensures { Reads (λ z. z) result (part k (cost_number_in aim) (view list.now)) }
+{
+    match list.get(k) {
+        None => Err(missing_item(alloc, k)),
+        Some(value) => numbered(alloc, k, read_cost_number(alloc, value, aim)),
     }
 }

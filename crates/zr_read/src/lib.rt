@@ -1,6 +1,20 @@
 //! Reads the text of a game: the game as it stands there, or the first fault and where it is.
 #![tactic(auto)]
 
+mod costs;
+mod cross;
+mod followers;
 mod format;
+mod game;
+mod headings;
+mod laws;
+mod others;
+mod pairs;
+mod players;
+mod rows;
+mod variables;
 
 pub use format::{Aim, GameFormat};
+pub use game::{read_game, read_players};
+pub use laws::law_of_texts;
+pub use zr_value::{GameError, GameFault};

@@ -7,6 +7,8 @@ use Rattle.std.proofs.lemmas.Int.{ints}
 use Rattle.std.specs.BTreeMap.{insert_entry}
 use Rattle.std.specs.Prelude.{int_le, ◌&&◌, ◌≤ℤ◌}
 use Rattle.std.specs.Ordering.{MatchOrdering}
+use Rattle.std.specs.List.{All}
+use Rattle.std.proofs.lemmas.List.Elements.{All-nil, All-cons}
 use Rattle.std.proofs.lemmas.List.Quantifiers.{position-Some}
 use Rattle.serde_json.specs.Data.{Data, unsigned, negative, float, null, boolean, number, string, array, object}
 use Rattle.zr_base.specs.Terms.{Terms, AscendWith}
@@ -118,3 +120,15 @@ pub opposite_ascends : (low n : ℕ) (ts : Terms) → AscendWith IsCoefficient l
 opposite_ascends low n [] a = tt
 opposite_ascends low n (t ∷ ts) a =
     (a.0, a.1, coefficient_opposite t.1 a.2, opposite_ascends (t.0 + 1) n ts a.3)
+
+ascend_numbers : (low n : ℕ) (ts : Terms) → AscendWith IsCoefficient low n ts
+    → All (λ t. IsNumber t.1) ts
+ascend_numbers low n [] a = All-nil (λ t. IsNumber t.1)
+ascend_numbers low n (t ∷ ts) a =
+    All-cons (λ t. IsNumber t.1) t ts a.2.0 (ascend_numbers (t.0 + 1) n ts a.3)
+
+-- the numbers of terms are within the limit
+pub numbers_are_right : (names : List Name) (d : Data) (ts : Terms) → terms_in names d ≡ Ok ts
+    → All (λ t. IsNumber t.1) ts
+numbers_are_right names d ts h =
+    ascend_numbers 0 (length names) ts (terms_are_right names d ts h)

@@ -13,25 +13,26 @@ pub record Walked {S A T : Type 0} (add : S → A → Read S) (see : T → A) (s
   pub rest : each add 0 start (map see vs) ≡ each add i s (map see (drop i vs))
 
 module _ {S A T U : Type 0} (add : S → A → Read S) (see : T → A) (start : S) (vs : List T) (v : T)
-    (i : ℕ) (s t : S) (at : v ≡ get_or vs i v) (below : i < length vs)
-    (walked : Walked add see start vs i s) (result : Result U GameError)
-    (read : Reads (λ _. t) result (add s (see v))) where
+    (i : ℕ) (s : S) (at : v ≡ get_or vs i v) (below : i < length vs)
+    (walked : Walked add see start vs i s) (content : U → S) (result : Result U GameError)
+    (read : Reads content result (add s (see v))) where
   step : each add i s (map see (drop i vs)) ≡ (under (decimal i) (add s (see v)) >>= λ more.
       each add (i + 1) more (map see (drop (i + 1) vs)))
   step = rw (drop-cons vs i v below) (rw (sym at, add-one) refl)
 
   -- one item more was added
-  pub walked_more : (x : U) → Placed (decimal i) result (Ok x) → Walked add see start vs (i + 1) t
+  pub walked_more : (x : U) → Placed (decimal i) result (Ok x)
+      → Walked add see start vs (i + 1) (content x)
   walked_more x h =
-      let e : under (decimal i) (add s (see v)) ≡ Ok t =
-          placed_reads (λ _. t) (decimal i) result (Ok x) (add s (see v)) h read in
+      let e : under (decimal i) (add s (see v)) ≡ Ok (content x) =
+          placed_reads content (decimal i) result (Ok x) (add s (see v)) h read in
       record { rest = walked.rest ∙ step ∙ rw e refl }
 
   -- an item has a fault
   pub walk_stops : (e : GameError) → Placed (decimal i) result (Err e)
       → Says e (each add 0 start (map see vs))
   walk_stops e h = rw (walked.rest ∙ step) (says_then e _ _
-      (placed_reads (λ _. t) (decimal i) result (Err e) (add s (see v)) h read))
+      (placed_reads content (decimal i) result (Err e) (add s (see v)) h read))
 
 -- all items were added
 pub walk_ends : {S A T : Type 0} (add : S → A → Read S) (see : T → A) (start : S) (vs : List T)

@@ -1,10 +1,10 @@
 ghost use Rattle.std.specs.Prelude.{◌≡◌, ◌<◌, IfOk, false, codes, length};
 ghost use Rattle.serde_json.specs.View.{view};
 ghost use Rattle.zr_value.specs.Faults.{Reads};
-ghost use Rattle.zr_value.specs.Values.{needed};
-ghost use Rattle.zr_value.specs.Names.{is_among, new_name_in, known_in, names_at};
+ghost use Rattle.zr_value.specs.Values.{needed, part};
+ghost use Rattle.zr_value.specs.Names.{is_among, new_name_in, known_in};
 
-use crate::fault::{GameError, GameFault, at, missing, placed};
+use crate::fault::{GameError, GameFault, at, missing, missing_item, numbered, placed};
 use crate::values::read_name;
 use indexmap::IndexSet;
 use serde_json::Value;
@@ -137,16 +137,18 @@ pub fn read_known(alloc: Global, value: &Value, names: &Names<'_>) -> Result<u32
     }
 }
 
-/// The number of a name among the variables of player j.
-pub fn read_known_of(
+/// Part k of a list, which is a name: its number.
+pub fn read_known_part(
     alloc: Global,
-    value: &Value,
-    known: &Known<'_>,
-    j: u32,
+    list: &Value,
+    k: usize,
+    names: &Names<'_>,
 ) -> Result<u32, GameError>
-    requires { j < length known.now.variables.items }
-    ensures { Reads (λ v. v) result
-        (known_in (names_at known.now.variables.items j) (view value.now)) }
+    ensures read { Reads (λ v. v) result (part k (known_in names.now) (view list.now)) }
+    ensures below { IfOk result (λ v. v < length names.now) }
 {
-    read_known(alloc, value, &known.variables[j as usize])
+    match list.get(k) {
+        None => Err(missing_item(alloc, k)),
+        Some(value) => numbered(alloc, k, read_known(alloc, value, names)),
+    }
 }

@@ -1,12 +1,14 @@
 ghost use Rattle.std.specs.Prelude.{◌≡◌, [], filter, map, IfOk};
 ghost use Rattle.serde_json.specs.View.{view};
 ghost use Rattle.zr_value.specs.Faults.{Reads};
-ghost use Rattle.zr_value.specs.Values.{number_in, part, each};
-ghost use Rattle.zr_value.specs.Terms.{term_variable_in, add_term, is_term, terms_in};
+ghost use Rattle.zr_value.specs.Values.{part, each};
+ghost use Rattle.zr_value.specs.Terms.{term_variable_in, add_term, is_term, opposite, terms_in};
+ghost use Rattle.std.specs.List.{All};
+ghost use Rattle.zr_game.specs.Forms.{IsNumber};
 
 use crate::fault::{GameError, GameFault, at, missing_item, numbered};
 use crate::names::{Names, read_known};
-use crate::values::{read_items, read_number, read_tuple};
+use crate::values::{read_items, read_number_part, read_tuple};
 use serde_json::Value;
 use smallvec::SmallVec;
 use std::alloc::{AllocError, Global};
@@ -46,16 +48,6 @@ fn read_term_variable(
     }
 }
 
-/// The number of a term.
-fn read_term_number(alloc: Global, value: &Value) -> Result<i64, GameError>
-    ensures { Reads (λ z. z) result (part 1 number_in (view value.now)) }
-{
-    match value.get(1usize) {
-        None => Err(missing_item(alloc, 1)),
-        Some(z) => numbered(alloc, 1, read_number(alloc, z)),
-    }
-}
-
 /// Adds a term to those so far.
 fn add_term(
     alloc: Global,
@@ -68,7 +60,7 @@ fn add_term(
 {
     read_tuple(alloc, value, 2)?;
     let v = read_term_variable(alloc, value, names, so_far)?;
-    let z = read_term_number(alloc, value)?;
+    let z = read_number_part(alloc, value, 1)?;
     so_far.insert(v, z)?;
     Ok(())
 }
@@ -114,9 +106,25 @@ pub fn read_terms(
     value: &Value,
     names: &Names<'_>,
 ) -> Result<SmallVec<(u32, i64), 8>, GameError>
-    ensures { Reads (λ v. v.items) result (terms_in names.now (view value.now)) }
+    ensures read { Reads (λ v. v.items) result (terms_in names.now (view value.now)) }
+    ensures numbers { IfOk result (λ v. All (λ t. IsNumber t.1) v.items) }
 {
     let items = read_items(alloc, value)?;
     let all = read_each_term(alloc, items, names)?;
     Ok(without_zeros(alloc, all)?)
+}
+
+/// The terms with the other sign.
+pub fn opposite_terms(
+    alloc: Global,
+    terms: &[(u32, i64)],
+) -> Result<SmallVec<(u32, i64), 8>, AllocError>
+    requires { All (λ t. IsNumber t.1) terms.now }
+    ensures { IfOk result (λ made. made.items ≡ opposite terms.now) }
+{
+    let mut made = SmallVec::new(alloc);
+    for (v, z) in terms {
+        made.push((*v, -*z))?;
+    }
+    Ok(made)
 }

@@ -1,9 +1,10 @@
-ghost use Rattle.std.specs.Prelude.{◌≡◌, ◌≤◌, ◌&&◌, ◌==◌, IsTrue, IfOk, length, map, nat_le};
+ghost use Rattle.std.specs.Prelude.{◌≡◌, ◌≤◌, ◌≤ℤ◌, ◌&&◌, ◌==◌, IsTrue, IfOk, length, map, nat_le};
 ghost use Rattle.serde_json.specs.View.{view};
+ghost use Rattle.zr_game.specs.Forms.{IsNumber, number_limit};
 ghost use Rattle.zr_value.specs.Faults.{Reads};
-ghost use Rattle.zr_value.specs.Values.{whole_in, number_in, truth_in, text_in, object_in, items_in, name_in, listed, tuple, there, there_or, needed, optional, part};
+ghost use Rattle.zr_value.specs.Values.{whole_in, number_in, truth_in, text_in, object_in, items_in, name_in, listed, tuple, part};
 
-use crate::fault::{GameError, GameFault, at};
+use crate::fault::{GameError, GameFault, at, missing_item, numbered};
 use serde_json::Value;
 use std::alloc::Global;
 use zr_source::is_name;
@@ -13,7 +14,8 @@ const LIMIT: i64 = 1_000_000_000;
 
 /// A whole number from `low` to the limit.
 pub fn read_whole(alloc: Global, value: &Value, low: i64) -> Result<i64, GameError>
-    ensures { Reads (λ z. z) result (whole_in low (view value.now)) }
+    ensures read { Reads (λ z. z) result (whole_in low (view value.now)) }
+    ensures within { IfOk result (λ z. (low ≤ℤ z) × (z ≤ℤ number_limit)) }
 {
     let Value::Number(number) = value else {
         return Err(at(alloc, GameFault::Kind));
@@ -30,9 +32,21 @@ pub fn read_whole(alloc: Global, value: &Value, low: i64) -> Result<i64, GameErr
 
 /// Any number of a game.
 pub fn read_number(alloc: Global, value: &Value) -> Result<i64, GameError>
-    ensures { Reads (λ z. z) result (number_in (view value.now)) }
+    ensures read { Reads (λ z. z) result (number_in (view value.now)) }
+    ensures within { IfOk result IsNumber }
 {
     read_whole(alloc, value, -LIMIT)
+}
+
+/// Part k of a list, which is a number of a game.
+pub fn read_number_part(alloc: Global, list: &Value, k: usize) -> Result<i64, GameError>
+    ensures read { Reads (λ z. z) result (part k number_in (view list.now)) }
+    ensures within { IfOk result IsNumber }
+{
+    match list.get(k) {
+        None => Err(missing_item(alloc, k)),
+        Some(value) => numbered(alloc, k, read_number(alloc, value)),
+    }
 }
 
 /// True or false.

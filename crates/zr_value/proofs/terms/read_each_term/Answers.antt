@@ -8,10 +8,10 @@ pub loop-i-init : goal.loop-i-init
 loop-i-init c = record { walked = rw (c.new-all.ensures.empty) (record { rest = refl }) }
 
 pub loop-i-preserved : goal.loop-i-preserved
-loop-i-preserved c = record { walked = walked_more (add_term c.args.names.now) view [] c.args.items.now c.index-items-i.result c.loop-i.i c.loop-i.all.entries c.add_term-added.new.so_far.entries c.index-items-i.is c.loop-i-test.true c.loop-i.invariant.walked c.add_term-added.result c.add_term-added.ensures c.in_default.field-0 c.in_default.ensures }
+loop-i-preserved c = record { walked = walked_more (add_term c.args.names.now) view [] c.args.items.now c.index-items-i.result c.loop-i.i c.loop-i.all.entries c.index-items-i.is c.loop-i-test.true c.loop-i.invariant.walked (λ _. c.add_term-added.new.so_far.entries) c.add_term-added.result c.add_term-added.ensures c.in_default.field-0 c.in_default.ensures }
 
 pub returns-in-Err : goal.returns-in-Err
-returns-in-Err c = walk_stops (add_term c.args.names.now) view [] c.args.items.now c.index-items-i.result c.loop-i.i c.loop-i.all.entries c.add_term-added.new.so_far.entries c.index-items-i.is c.loop-i-test.true c.loop-i.invariant.walked c.add_term-added.result c.add_term-added.ensures c.in-Err.e c.in-Err.ensures
+returns-in-Err c = walk_stops (add_term c.args.names.now) view [] c.args.items.now c.index-items-i.result c.loop-i.i c.loop-i.all.entries c.index-items-i.is c.loop-i-test.true c.loop-i.invariant.walked (λ _. c.add_term-added.new.so_far.entries) c.add_term-added.result c.add_term-added.ensures c.in-Err.e c.in-Err.ensures
 
 pub returns : goal.returns
 returns c = walk_ends (add_term c.args.names.now) view [] c.args.items.now c.loop-i.i c.loop-i.all.entries c.loop-i-test.false c.loop-i.invariant.walked
