@@ -107,9 +107,10 @@ module _ (players : List Name) (variables : List (List Name)) (i : ℕ) where
       → (j < length players) × (j ≢ i)
   other_player_ok d j h =
       let b = bind_ok (known_in players d) _ j h in
-      let g = guard_ok OwnCross (b.0 == i) b.0 j b.2 in
-      (subst (λ j. j < length players) g.1 (known_below players d b.0 b.1),
-      subst (λ j. j ≢ i) g.1 (eq_from_test b.0 i g.0))
+      let g = guard_ok OwnCross (b.0 == i) b.0 j b.2 in (
+        subst (λ j. j < length players) g.1 (known_below players d b.0 b.1),
+        subst (λ j. j ≢ i) g.1 (eq_from_test b.0 i g.0),
+      )
 
   module _ (aim : Aim) where
     -- what a cross term is made of
@@ -124,17 +125,17 @@ module _ (players : List Name) (variables : List (List Name)) (i : ℕ) where
         let own = bind_ok (part 0 (known_in (names_at variables i)) d) _ after four.2 in
         let j = bind_ok (part 1 (other_player_in players i) d) _ after own.2 in
         let v = bind_ok (part 2 (other_variable_in (names_at variables j.0) own.0 j.0 before) d) _
-            after j.2 in
+        after j.2 in
         let z = bind_ok (part 3 (cost_number_in aim) d) _ after v.2 in
         let own_at = part_ok 0 (known_in (names_at variables i)) d own.0 own.1 in
         let j_at = part_ok 1 (other_player_in players i) d j.0 j.1 in
         let v_at = part_ok 2 (other_variable_in (names_at variables j.0) own.0 j.0 before) d
-            v.0 v.1 in
+        v.0 v.1 in
         let z_at = part_ok 3 (cost_number_in aim) d z.0 z.1 in
         let other = other_player_ok j_at.0 j.0 j_at.1 in
         let var = bind_ok (known_in (names_at variables j.0) v_at.0) _ v.0 v_at.1 in
         let free = guard_ok Twice (taken triple_order before (own.0, j.0, var.0)) var.0 v.0
-            var.2 in (
+        var.2 in (
           (own.0, j.0, v.0),
           z.0,
           ok_same (insert_entry triple_order before (own.0, j.0, v.0) z.0) after z.2,
@@ -184,18 +185,18 @@ module _ (players : List Name) (variables : List (List Name)) (i : ℕ) where
     cross_ok most d ts m h =
         let ds = bind_ok (listed 0 most d) _ ts h in
         let all = bind_ok (each (add_cross players variables i aim) 0 [] ds.0)
-            (λ all. Ok (map cross_of (filter is_term all))) ts ds.2 in
+        (λ all. Ok (map cross_of (filter is_term all))) ts ds.2 in
         let e : map cross_of (filter is_term all.0) ≡ ts = cc (all.2) in
         let few = listed_ok 0 most d ds.0 ds.1 in
         let n = each_grows length (λ _. 1) (add_cross players variables i aim) grows 0 [] ds.0
-            all.0 all.1 in
+        all.0 all.1 in
         let ones = sum_ones ds.0 in
         let kept = ordered_filter triple_order (IsKey players variables i) all.0
-            (each_keeps AreKept (add_cross players variables i aim) keeps 0 [] ds.0 all.0 tt
-            all.1) in
+        (each_keeps AreKept (add_cross players variables i aim) keeps 0 [] ds.0 all.0 tt
+        all.1) in
         let fewer = length-kept all.0 in
         let same : length (map cross_of (filter is_term all.0)) ≡ length (filter is_term all.0)
-            = length-map (filter is_term all.0) cross_of in
+        = length-map (filter is_term all.0) cross_of in
         subst AreCross e (record {
           few = omega (arith, few.1, n, fewer, same, ones, m);
           ascend = made_ascend triple_order (λ s t. cross_order s t ≡ Less) cross_of
@@ -242,7 +243,7 @@ module _ (players : List Name) (variables : List (List Name)) (i : ℕ) where
               (known_below (names_at variables j.0) v_at.0 var.0 var.1);
         } in (
           subst SinglesKept e (ordered_insert place_order place_order_total IsOther IsNumber s
-          (j.0, v.0) z.0 key (cost_number_ok aim z_at.0 z.0 z_at.1) o),
+              (j.0, v.0) z.0 key (cost_number_ok aim z_at.0 z.0 z_at.1) o),
           subst (λ t. length t ≤ length s + 1) e (length-insert place_order s (j.0, v.0) z.0),
         )
 
@@ -267,13 +268,13 @@ module _ (players : List Name) (variables : List (List Name)) (i : ℕ) where
         let v = bind_ok (part 1 (known_in (names_at variables j.0)) d) _ t j.2 in
         let k = bind_ok (part 2 (second_player_in players i j.0) d) _ t v.2 in
         let w = bind_ok (part 3 (second_variable_in (names_at variables k.0) (j.0, v.0) k.0 s) d)
-            _ t k.2 in
+        _ t k.2 in
         let z = bind_ok (part 4 (cost_number_in aim) d) _ t w.2 in
         let j_at = part_ok 0 (other_player_in players i) d j.0 j.1 in
         let v_at = part_ok 1 (known_in (names_at variables j.0)) d v.0 v.1 in
         let k_at = part_ok 2 (second_player_in players i j.0) d k.0 k.1 in
         let w_at = part_ok 3 (second_variable_in (names_at variables k.0) (j.0, v.0) k.0 s) d
-            w.0 w.1 in
+        w.0 w.1 in
         let z_at = part_ok 4 (cost_number_in aim) d z.0 z.1 in
         let first = other_player_ok j_at.0 j.0 j_at.1 in
         let k_is = bind_ok (other_player_in players i k_at.0) _ k.0 k_at.1 in
@@ -281,7 +282,7 @@ module _ (players : List Name) (variables : List (List Name)) (i : ℕ) where
         let second = other_player_ok k_at.0 k_is.0 k_is.1 in
         let var = bind_ok (known_in (names_at variables k.0) w_at.0) _ w.0 w_at.1 in
         let free = guard_ok Twice (taken places_order s (in_order (j.0, v.0) (k.0, var.0))) var.0
-            w.0 var.2 in
+        w.0 var.2 in
         let e = ok_same (insert_entry places_order s (in_order (j.0, v.0) (k.0, w.0)) z.0) t z.2 in
         let a : IsOther (j.0, v.0) = record {
           player = first.0;
@@ -295,12 +296,12 @@ module _ (players : List Name) (variables : List (List Name)) (i : ℕ) where
               (known_below (names_at variables k.0) w_at.0 var.0 var.1);
         } in
         let apart : j.0 ≢ k.0 = λ same. subst (λ k. k ≢ j.0) k_not.1
-            (eq_from_test k_is.0 j.0 k_not.0) (sym same) in (
+        (eq_from_test k_is.0 j.0 k_not.0) (sym same) in (
           subst ProductsKept e (ordered_insert places_order places_order_total IsCouple IsNumber s
-          (in_order (j.0, v.0) (k.0, w.0)) z.0 (couple (j.0, v.0) (k.0, w.0) apart a b)
-          (cost_number_ok aim z_at.0 z.0 z_at.1) o),
+              (in_order (j.0, v.0) (k.0, w.0)) z.0 (couple (j.0, v.0) (k.0, w.0) apart a b)
+              (cost_number_ok aim z_at.0 z.0 z_at.1) o),
           subst (λ t. length t ≤ length s + 1) e
-          (length-insert places_order s (in_order (j.0, v.0) (k.0, w.0)) z.0),
+              (length-insert places_order s (in_order (j.0, v.0) (k.0, w.0)) z.0),
         )
 
     abbrev OthersKept : OthersOf → Type 0
@@ -327,7 +328,7 @@ module _ (players : List Name) (variables : List (List Name)) (i : ℕ) where
             ((ok.0, o.1), omega (arith, ok.1))
         by false true h =
             let b = bind_ok (add_product players variables i aim s.products d) (with_products s) t
-                h in
+            h in
             let ok = product_ok s.products d b.0 o.1 b.1 in
             let e : record { singles = s.singles; products = b.0 } ≡ t = cc (b.2) in
             subst (λ t. OthersKept t × (size t ≤ size s + 1)) e
@@ -345,9 +346,9 @@ module _ (players : List Name) (variables : List (List Name)) (i : ℕ) where
         subst (λ t. Counted (n + length {A = Data} []) t) e (c.0, omega (arith, c.1))
     others_count n k s (d ∷ ds) t c h =
         let b = bind_ok (under (decimal k) (add_other players variables i aim s d))
-            (λ more. each (add_other players variables i aim) (k + 1) more ds) t h in
+        (λ more. each (add_other players variables i aim) (k + 1) more ds) t h in
         let ok = other_ok s d b.0 c.0 (under_ok (decimal k)
-            (add_other players variables i aim s d) b.0 b.1) in
+        (add_other players variables i aim s d) b.0 b.1) in
         let rest = others_count (n + 1) (k + 1) b.0 ds t (ok.0, omega (arith, ok.1, c.1)) b.2 in
         (rest.0, omega (arith, rest.1))
 

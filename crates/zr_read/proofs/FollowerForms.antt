@@ -104,12 +104,12 @@ free_keep : (n least : ℕ) (s : List VarOf) (d : Data) (t : List VarOf) → Are
     → add_free s d ≡ Ok t → AreLonger n least t
 free_keep n least s d t are h =
     let b = bind_ok (new_name_in (map var_name s) d) (λ name. Ok (s ++ free_variable name ∷ [])) t
-        h in
+    h in
     let e = ok_same (s ++ free_variable b.0 ∷ []) t b.2 in
     let one = length-push s (free_variable b.0) in
     subst (AreLonger n least) e (
       variables_push s (free_variable b.0) are.0 (new_name_ok (map var_name s) d b.0 b.1)
-      (free_form b.0),
+          (free_form b.0),
       free_push n s (free_variable b.0) are.1 (refl, refl, refl),
       omega (arith, one, are.2),
     )
@@ -129,7 +129,9 @@ members_keep n s d t are h =
     let at = needed_ok (codes "vars") (free_in s.vars) d v.0 v.1 in
     let ok = free_ok n s.vars at.0 v.0 are.vars are.free at.1 in
     let heading : FollowerHeadingOf = record {
-      first = length s.vars; count = length v.0 - length s.vars; value = d;
+      first = length s.vars;
+      count = length v.0 - length s.vars;
+      value = d;
     } in
     let e = ok_same (record { vars = v.0; followers = s.followers ++ heading ∷ [] }) t v.2 in
     subst (AreMembers n) e (record {
@@ -145,7 +147,9 @@ members_grow s d t h =
     let o = bind_ok (object_in d) _ t h in
     let v = bind_ok (needed (codes "vars") (free_in s.vars) d) _ t o.2 in
     let heading : FollowerHeadingOf = record {
-      first = length s.vars; count = length v.0 - length s.vars; value = d;
+      first = length s.vars;
+      count = length v.0 - length s.vars;
+      value = d;
     } in
     let e = ok_same (record { vars = v.0; followers = s.followers ++ heading ∷ [] }) t v.2 in
     let one = length-push s.followers heading in
@@ -165,13 +169,13 @@ members_ok own d m vars h =
     let all = bind_ok (each add_follower_heading 0 (alone own) ds.0) _ m ds.2 in
     let few = only_ok Count (nat_le (length all.0.vars) 64) all.0 m all.2 in
     let n = each_grows (λ (m : MembersOf). length m.followers) (λ _. 1) add_follower_heading
-        members_grow 0 (alone own) ds.0 all.0 all.1 in
+    members_grow 0 (alone own) ds.0 all.0 all.1 in
     let ones = sum_ones ds.0 in
     let most = listed_ok 0 16 d ds.0 ds.1 in
     let within = le_from_test (length all.0.vars) 64 few.0 in
     subst (λ m. AreMembers (length own) m × AreFew m) few.1 (
       each_keeps (AreMembers (length own)) add_follower_heading (members_keep (length own)) 0
-      (alone own) ds.0 all.0 (alone_ok own vars) all.1,
+          (alone own) ds.0 all.0 (alone_ok own vars) all.1,
       (within, omega (arith, n, ones, most.1)),
     )
 
@@ -202,8 +206,10 @@ module _ (names : List Name) (h : FollowerHeadingOf) where
       both_false true true e x y = absurd (cc)
       both_false true false e x y = absurd (cc)
       both_false false b e x y = absurd (cc)
+
       le_test : (m n : ℕ) → m ≤ n → nat_le m n ≡ true
       le_test m n h = grind (arith, nat_tests)
+
       lt_test : (m n : ℕ) → m < n → nat_lt m n ≡ true
       lt_test m n h = grind (arith, nat_tests)
 
@@ -222,7 +228,7 @@ module _ (names : List Name) (h : FollowerHeadingOf) where
   given_ok own before d v e =
       let k = bind_ok (known_in names d) _ v e in
       let free = guard_first OwnCross (is_own h k.0) (cond (taken place_order before (own, k.0))
-          (fault Twice) (Ok k.0)) v k.2 in
+      (fault Twice) (Ok k.0)) v k.2 in
       let same = guard_ok Twice (taken place_order before (own, k.0)) k.0 v free.1 in
       subst (λ v. (v < length names) × (Owns v → ⊥)) same.1
       (known_below names d k.0 k.1, not_from_test k.0 free.0)
@@ -287,13 +293,13 @@ module _ (names : List Name) (h : FollowerHeadingOf) where
         let same = ok_same (map follower_cross_of es) ts all.2 in
         let few = listed_ok 0 65536 d ds.0 ds.1 in
         let n = each_grows length (λ _. 1) (add_follower_cross names h aim) cross_grows 0 [] ds.0
-            all.0 all.1 in
+        all.0 all.1 in
         let ones = sum_ones ds.0 in
         let fewer = length-kept all.0 in
         let as_many = length-map es follower_cross_of in
         let kept = ordered_filter place_order IsCrossKey all.0
-            (each_keeps AreKept (add_follower_cross names h aim) cross_kept 0 [] ds.0 all.0 tt
-            all.1) in
+        (each_keeps AreKept (add_follower_cross names h aim) cross_kept 0 [] ds.0 all.0 tt
+        all.1) in
         subst AreCross same (record {
           few = omega (arith, few.1, n, ones, fewer, as_many);
           ascend = made_ascend place_order (λ s t. follower_cross_order s t ≡ Less)
@@ -326,16 +332,20 @@ module _ (names : List Name) (h : FollowerHeadingOf) where
       let r = bind_ok (optional (codes "rows") [] (rows_in format 32 names) h.value) _ f a.2 in
       let c = bind_ok (optional (codes "cost") [] (terms_in names) h.value) _ f r.2 in
       let x = bind_ok (optional (codes "cross") [] (follower_cross_in names h a.0) h.value) _ f
-          c.2 in
+      c.2 in
       let made : FollowerOf = record {
-        first = h.first; count = h.count; rows = r.0; cost = aimed a.0 c.0; cross = x.0;
+        first = h.first;
+        count = h.count;
+        rows = r.0;
+        cost = aimed a.0 c.0;
+        cross = x.0;
       } in
       let same = ok_same made f x.2 in
       let rows = optional_keeps (λ rs. (length rs ≤ 32) × All (IsRowForm (length names)) rs)
-          (codes "rows") [] (rows_in format 32 names) h.value r.0
-          (omega arith, All-nil (IsRowForm (length names))) (rows_ok format names 32) r.1 in
+      (codes "rows") [] (rows_in format 32 names) h.value r.0
+      (omega arith, All-nil (IsRowForm (length names))) (rows_ok format names 32) r.1 in
       let cost = optional_keeps (λ ts. AreTerms (length names) ts) (codes "cost") []
-          (terms_in names) h.value c.0 tt (terms_are_right names) c.1 in
+      (terms_in names) h.value c.0 tt (terms_are_right names) c.1 in
       let cross = cross_of_member a.0 h.value x.0 x.1 in
       subst IsFollower same (record {
         first = refl;
@@ -368,9 +378,9 @@ followers_after format names k s [] t e =
     let same = ok_same s t e in ([], append_nil_right s ∙ same, tt)
 followers_after format names k s (h ∷ hs) t e =
     let b = bind_ok (under (decimal k) (add_follower format names s h))
-        (λ more. each (add_follower format names) (k + 1) more hs) t e in
+    (λ more. each (add_follower format names) (k + 1) more hs) t e in
     let one = bind_ok (follower_in format names h) (λ f. Ok (s ++ f ∷ [])) b.0
-        (under_ok (decimal k) (add_follower format names s h) b.0 b.1) in
+    (under_ok (decimal k) (add_follower format names s h) b.0 b.1) in
     let same = ok_same (s ++ one.0 ∷ []) b.0 one.2 in
     let rest = followers_after format names (k + 1) b.0 hs t b.2 in (
       one.0 ∷ rest.0,

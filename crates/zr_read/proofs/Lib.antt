@@ -4,5 +4,6 @@ pub mod RowForms
 pub mod CostForms
 pub mod FollowerForms
 pub mod Sound
+pub mod Consumed
 pub mod Answering
 pub mod Exclusive

@@ -24,9 +24,10 @@ new_name_ok before d s h =
     let n = bind_ok (name_in d) _ s h in
     let t = bind_ok (text_in d) _ n.0 n.1 in
     let rule = only_ok BadName (is_name t.0) t.0 n.0 t.2 in
-    let new = guard_ok Twice (is_among before n.0) n.0 s n.2 in
-    (subst (λ s. is_name s ≡ true) (rule.1 ∙ new.1) rule.0,
-    subst (λ s. is_among before s ≡ false) new.1 new.0)
+    let new = guard_ok Twice (is_among before n.0) n.0 s n.2 in (
+      subst (λ s. is_name s ≡ true) (rule.1 ∙ new.1) rule.0,
+      subst (λ s. is_among before s ≡ false) new.1 new.0,
+    )
 
 pub no_names : AreNames []
 no_names = record {

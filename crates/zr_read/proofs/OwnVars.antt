@@ -70,16 +70,16 @@ variable_ok : (f : GameFormat) (before : List Name) (d : Data) (v : VarOf)
 variable_ok f before d v h =
     let o = bind_ok (object_in d) _ v h in
     let n = bind_ok (needed (codes "name") (new_name_in before) d)
-        (λ name. variable_named f name d) v o.2 in
+    (λ name. variable_named f name d) v o.2 in
     let at = needed_ok (codes "name") (new_name_in before) d n.0 n.1 in
     let b = bind_ok (optional (codes "int") false truth_in d) _ v n.2 in
     let l = bind_ok (since_second f (codes "low") (Some (pos 0)) low_in d) _ v b.2 in
     let u = bind_ok (optional (codes "up") None (bound_in (least_up l.0)) d) _ v l.2 in
     let e : record { name = n.0; whole = b.0; low = l.0; up = u.0 } ≡ v = cc (u.2) in
     let low = since_keeps (λ o. ForSome o IsNumber) f (codes "low") (Some (pos 0)) low_in d l.0
-        zero_low low_ok l.1 in
+    zero_low low_ok l.1 in
     let up = optional_keeps (IsFrom (least_up l.0)) (codes "up") None (bound_in (least_up l.0)) d
-        u.0 (λ z e. absurd (cc)) (bound_ok (least_up l.0)) u.1 in
+    u.0 (λ z e. absurd (cc)) (bound_ok (least_up l.0)) u.1 in
     let form = within_bounds n.0 b.0 l.0 u.0 low up in
     subst (λ v. IsNewName before v.name × IsVarForm v) e (new_name_ok before at.0 n.0 at.1, form)
 

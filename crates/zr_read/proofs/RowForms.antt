@@ -54,7 +54,7 @@ rows_right n ts None (Some z) eq rs t l g q h =
     (All-nil (IsRowForm n)))
 rows_right n ts None None (Some z) rs t l g q h =
     let e : record { coef = ts; le = z } ∷ record { coef = opposite ts; le = neg_ℤ z } ∷ [] ≡ rs
-        = cc in
+    = cc in
     subst (All (IsRowForm n)) e (All-cons (IsRowForm n) (at_most ts z) (at_least ts z ∷ [])
     (record { coef = t; le = q z refl })
     (All-cons (IsRowForm n) (at_least ts z) []
@@ -80,7 +80,7 @@ two_rows ts None (Some z) (Some y) rs h =
     let one = one_row ts None (Some z) rs h in omega (arith, one)
 two_rows ts None None (Some y) rs h =
     let e : record { coef = ts; le = y } ∷ record { coef = opposite ts; le = neg_ℤ y } ∷ [] ≡ rs
-        = cc in
+    = cc in
     subst (λ rs. length rs ≤ 2) e (omega arith)
 
 -- no more rows than the object counts for
@@ -109,16 +109,16 @@ module _ (f : GameFormat) (names : List Name) where
       let l = bind_ok (optional (codes "le") None (side_in false) d) _ rs t.2 in
       let g = bind_ok (since_second f (codes "ge") None (side_in (is_some l.0)) d) _ rs l.2 in
       let q = bind_ok (since_second f (codes "eq") None (side_in (is_some l.0 || is_some g.0)) d)
-          _ rs g.2 in
+      _ rs g.2 in
       let ts = needed_ok (codes "terms") (terms_in names) d t.0 t.1 in (
         rows_right (length names) t.0 l.0 g.0 q.0 rs (terms_are_right names ts.0 t.0 ts.1)
-        (optional_keeps (λ o. ForSome o IsNumber) (codes "le") None (side_in false) d l.0
-        none_ok (side_ok false) l.1)
-        (since_keeps (λ o. ForSome o IsNumber) f (codes "ge") None (side_in (is_some l.0)) d g.0
-        none_ok (side_ok (is_some l.0)) g.1)
-        (since_keeps (λ o. ForSome o IsNumber) f (codes "eq") None
-        (side_in (is_some l.0 || is_some g.0)) d q.0
-        none_ok (side_ok (is_some l.0 || is_some g.0)) q.1) q.2,
+            (optional_keeps (λ o. ForSome o IsNumber) (codes "le") None (side_in false) d l.0
+            none_ok (side_ok false) l.1)
+            (since_keeps (λ o. ForSome o IsNumber) f (codes "ge") None (side_in (is_some l.0)) d g.0
+            none_ok (side_ok (is_some l.0)) g.1)
+            (since_keeps (λ o. ForSome o IsNumber) f (codes "eq") None
+            (side_in (is_some l.0 || is_some g.0)) d q.0
+            none_ok (side_ok (is_some l.0 || is_some g.0)) q.1) q.2,
         counted f (is_some l.0 || is_some g.0) t.0 l.0 g.0 q.0 d rs q.1 q.2,
       )
 
@@ -145,12 +145,12 @@ module _ (f : GameFormat) (names : List Name) where
   rows_ok most d rs h =
       let ds = bind_ok (items_in d) _ rs h in
       let only = only_read (nat_le (sum_by (row_count f) ds.0) most)
-          (each (add_rows f names) 0 [] ds.0) rs ds.2 in
+      (each (add_rows f names) 0 [] ds.0) rs ds.2 in
       let few = le_from_test (sum_by (row_count f) ds.0) most only.0 in
       let n = each_grows length (row_count f) (add_rows f names) rows_grow 0 [] ds.0 rs only.1 in (
         omega (arith, few, n),
         each_keeps (All (IsRowForm (length names))) (add_rows f names) rows_keep 0 [] ds.0 rs
-        (All-nil (IsRowForm (length names))) only.1,
+            (All-nil (IsRowForm (length names))) only.1,
       )
     where
       only_read : (b : Bool) (r : Read (List RowOf)) (rs : List RowOf)
@@ -186,11 +186,14 @@ module _ (names : List Name) (vars : List VarOf) where
       let k = bind_ok (known_in names v_at.0) _ v.0 v_at.1 in
       let low = only_ok PairLow (is_from_zero (slice_get vars k.0)) k.0 v.0 k.2 in
       let e : record { var = v.0; coef = t.0; add = a.0 } ≡ p = cc (a.2) in
-      subst IsPair e (record {
-        var = subst (λ v. v < length names) low.1 (known_below names v_at.0 k.0 k.1);
-        coef = terms_are_right names t_at.0 t.0 t_at.1;
-        add = whole_ok _ a_at.0 a.0 a_at.1;
-      }, subst (IsFromZero vars) low.1 (from_zero_from_test vars k.0 low.0))
+      subst IsPair e (
+        record {
+          var = subst (λ v. v < length names) low.1 (known_below names v_at.0 k.0 k.1);
+          coef = terms_are_right names t_at.0 t.0 t_at.1;
+          add = whole_ok _ a_at.0 a.0 a_at.1;
+        },
+        subst (IsFromZero vars) low.1 (from_zero_from_test vars k.0 low.0),
+      )
 
   pairs_keep : (s : List PairOf) (d : Data) (t : List PairOf) → All IsPair s
       → add_pair names vars s d ≡ Ok t → All IsPair t
@@ -212,6 +215,7 @@ module _ (names : List Name) (vars : List VarOf) where
   pairs_ok d ps h =
       let ds = bind_ok (listed 0 32 d) (λ ds. each (add_pair names vars) 0 [] ds) ps h in
       let few = listed_ok 0 32 d ds.0 ds.1 in
-      let n = each_counts (add_pair names vars) pairs_count 0 [] ds.0 ps ds.2 in
-      (omega (arith, few.1, n),
-      each_keeps (All IsPair) (add_pair names vars) pairs_keep 0 [] ds.0 ps (All-nil IsPair) ds.2)
+      let n = each_counts (add_pair names vars) pairs_count 0 [] ds.0 ps ds.2 in (
+        omega (arith, few.1, n),
+        each_keeps (All IsPair) (add_pair names vars) pairs_keep 0 [] ds.0 ps (All-nil IsPair) ds.2,
+      )

@@ -65,11 +65,11 @@ module _ (f : GameFormat) (taken : Name) where
       let b = bind_ok (heading_in f (taken ∷ map heading_name s) d) (λ h. Ok (s ++ h ∷ [])) t e in
       let o = bind_ok (object_in d) _ b.0 b.1 in
       let n = bind_ok (needed (codes "name") (new_name_in (taken ∷ map heading_name s)) d) _ b.0
-          o.2 in
+      o.2 in
       let a = bind_ok (aim_of_in f d) _ b.0 n.2 in
       let v = bind_ok (needed (codes "vars") (variables_in f) d) _ b.0 a.2 in
       let m = bind_ok (optional (codes "followers") (alone v.0) (follower_headings_in v.0) d) _ b.0
-          v.2 in
+      v.2 in
       let name_at = needed_ok (codes "name") (new_name_in (taken ∷ map heading_name s)) d n.0 n.1 in
       let vars_at = needed_ok (codes "vars") (variables_in f) d v.0 v.1 in
       let vars = variables_ok f vars_at.0 v.0 vars_at.1 in
@@ -77,17 +77,20 @@ module _ (f : GameFormat) (taken : Name) where
       let is = ok_same made b.0 m.2 in
       let same = ok_same (s ++ b.0 ∷ []) t b.2 in
       let members = optional_keeps (λ m. AreMembers (length v.0) m × AreFew m) (codes "followers")
-          (alone v.0) (follower_headings_in v.0) d m.0
-          (alone_ok v.0 vars.2, (vars.1, omega arith))
-          (λ e m h. members_ok v.0 e m vars.2 h) m.1 in
+      (alone v.0) (follower_headings_in v.0) d m.0
+      (alone_ok v.0 vars.2, (vars.1, omega arith))
+      (λ e m h. members_ok v.0 e m vars.2 h) m.1 in
       let new = untaken taken (map heading_name s) n.0
-          (new_name_ok (taken ∷ map heading_name s) name_at.0 n.0 name_at.1) in
+      (new_name_ok (taken ∷ map heading_name s) name_at.0 n.0 name_at.1) in
       subst AreHeadings same (record {
         names = rw (map-append heading_name s (b.0 ∷ []))
             (names_push (map heading_name s) b.0.name are.names
             (subst (IsNewName (map heading_name s)) (ap heading_name is) new));
         each_one = All-push IsHeading s b.0 are.each_one (subst IsHeading is (record {
-          own = length v.0; some = vars.0; members = members.0; few = members.1;
+          own = length v.0;
+          some = vars.0;
+          members = members.0;
+          few = members.1;
         }));
       })
 
@@ -128,32 +131,33 @@ module _ (players : List Name) (variables : List (List Name)) where
         let own = names_at variables i in
         let b = bind_ok (player_in f most players variables i h) _ l e in
         let fs = bind_ok (under (codes "followers") (followers_in f own h.members.followers)) _ l
-            b.2 in
+        b.2 in
         let r = bind_ok (optional (codes "rows") [] (rows_in f 256 own) h.value) _ b.0 b.1 in
         let p = bind_ok (optional (codes "pairs") [] (pairs_in own h.members.vars) h.value) _ b.0
-            r.2 in
+        r.2 in
         let cs = bind_ok (costs_in most players variables i h.aim h.value) _ b.0 p.2 in
         let c = bind_ok (optional (codes "cost") [] (terms_in own) h.value) _ cs.0 cs.1 in
         let x = bind_ok (optional (codes "cross") []
-            (cross_in most players variables i h.aim) h.value) _ cs.0 c.2 in
+        (cross_in most players variables i h.aim) h.value) _ cs.0 c.2 in
         let o = bind_ok (optional (codes "others") []
-            (others_in players variables i h.aim) h.value) _ cs.0 x.2 in
+        (others_in players variables i h.aim) h.value) _ cs.0 x.2 in
         let costs : CostsOf = record { cost = aimed h.aim c.0; cross = x.0; others = o.0 } in
         let costs_are = ok_same costs cs.0 o.2 in
         let base_is = ok_same (player_of_parts h r.0 p.0 cs.0) b.0 cs.2 in
         let made : LeaderOf = record {
-          base = player_of_parts h r.0 p.0 costs; followers = fs.0;
+          base = player_of_parts h r.0 p.0 costs;
+          followers = fs.0;
         } in
         let inner : LeaderOf = record { base = b.0; followers = fs.0 } in
         let first : made ≡ inner = ap (λ base. let l : LeaderOf = record { base = base; followers = fs.0 } in l)
-            (ap (λ cs. player_of_parts h r.0 p.0 cs) costs_are ∙ base_is) in
+        (ap (λ cs. player_of_parts h r.0 p.0 cs) costs_are ∙ base_is) in
         let rows = optional_keeps (λ rs. (length rs ≤ 256) × All (IsRowForm (length own)) rs)
-            (codes "rows") [] (rows_in f 256 own) h.value r.0
-            (omega arith, All-nil (IsRowForm (length own))) (rows_ok f own 256) r.1 in
+        (codes "rows") [] (rows_in f 256 own) h.value r.0
+        (omega arith, All-nil (IsRowForm (length own))) (rows_ok f own 256) r.1 in
         let pairs = optional_keeps (λ ps. (length ps ≤ 32) × All (IsPair own h.members.vars) ps)
-            (codes "pairs") [] (pairs_in own h.members.vars) h.value p.0
-            (omega arith, All-nil (IsPair own h.members.vars))
-            (pairs_ok own h.members.vars) p.1 in
+        (codes "pairs") [] (pairs_in own h.members.vars) h.value p.0
+        (omega arith, All-nil (IsPair own h.members.vars))
+        (pairs_ok own h.members.vars) p.1 in
         subst (IsBody i h) (first ∙ ok_same inner l fs.2) (record {
           name = refl;
           vars = refl;
@@ -185,18 +189,20 @@ module _ (players : List Name) (variables : List (List Name)) where
     leaders_after k s [] t e = ([], append_nil_right s ∙ ok_same s t e, tt)
     leaders_after k s (h ∷ hs) t e =
         let b = bind_ok (under (decimal k) (add_leader f most players variables s h))
-            (λ more. each (add_leader f most players variables) (k + 1) more hs) t e in
+        (λ more. each (add_leader f most players variables) (k + 1) more hs) t e in
         let one = bind_ok (leader_in f most players variables (length s) h)
-            (λ l. Ok (s ++ l ∷ [])) b.0
-            (under_ok (decimal k) (add_leader f most players variables s h) b.0 b.1) in
+        (λ l. Ok (s ++ l ∷ [])) b.0
+        (under_ok (decimal k) (add_leader f most players variables s h) b.0 b.1) in
         let same = ok_same (s ++ one.0 ∷ []) b.0 one.2 in
         let rest = leaders_after (k + 1) b.0 hs t b.2 in
         let n : length b.0 ≡ length s + 1 =
-            subst (λ t. length t ≡ length s + 1) same (length-push s one.0) in (
+        subst (λ t. length t ≡ length s + 1) same (length-push s one.0) in (
           one.0 ∷ rest.0,
           sym (append_assoc s (one.0 ∷ []) rest.0) ∙ ap (λ xs. xs ++ rest.0) same ∙ rest.1,
-          (leader_ok (length s) h one.0 one.1,
-          subst (λ n. AreLeaders n hs rest.0) n rest.2),
+          (
+            leader_ok (length s) h one.0 one.1,
+            subst (λ n. AreLeaders n hs rest.0) n rest.2,
+          ),
         )
 
     pub leaders_are : (hs : List HeadingOf) (ls : List LeaderOf)
@@ -297,9 +303,12 @@ module _ (players : List Name) (variables : List (List Name)) where
   leader_at i k (h ∷ hs) [] l are at = absurd are
   leader_at i zero (h ∷ hs) (m ∷ ls) l are at =
       let same : m ≡ l = cc in
-      let e : i ≡ i + 0 = omega arith in
-      (h, refl, subst (IsBody players variables (i + 0) h) same
-      (subst (λ i. IsBody players variables i h m) e are.0))
+      let e : i ≡ i + 0 = omega arith in (
+        h,
+        refl,
+        subst (IsBody players variables (i + 0) h) same
+            (subst (λ i. IsBody players variables i h m) e are.0),
+      )
   leader_at i (suc k) (h ∷ hs) (m ∷ ls) l are at =
       let rest = leader_at (i + 1) k hs ls l are.1 at in
       let e : (i + 1) + k ≡ i + suc k = omega arith in
@@ -379,7 +388,7 @@ module _ (hs : List HeadingOf) (ls : List LeaderOf)
       let e = columns_of i h l at body in
       let all = heading.few.0 in
       let own = stand_le heading.own h.members.followers (length h.members.vars)
-          heading.members.stand in
+      heading.members.stand in
       let n = ap length body.vars in
       record {
         some_var = omega (arith, heading.some, own, n);
@@ -413,6 +422,7 @@ module _ (hs : List HeadingOf) (ls : List LeaderOf)
         var = λ p here. has_var t.player t.var is.0.var p here;
         coef = is.1;
       }
+
       other_form : (t : Other) → IsOtherTerm ns vs i h.aim t → IsOtherForm (bases ls) i t
       other_form t is = record {
         first = others_var i t.first is.first;
@@ -426,12 +436,12 @@ module _ (hs : List HeadingOf) (ls : List LeaderOf)
       let e = columns_of i h l at body in
       let n = follower_count (names_at vs i) h.members.followers l.followers body.followers in
       let free = subst (λ vars. (v : ℕ) (var : VarOf) → heading.own ≤ v
-          → slice_get vars v ≡ Some var → IsFree var) body.vars
-          (λ v var le at. free_at heading.own h.members.vars v var heading.members.free le at) in
+      → slice_get vars v ≡ Some var → IsFree var) body.vars
+      (λ v var le at. free_at heading.own h.members.vars v var heading.members.free le at) in
       let stand = subst (λ vars. StandFrom heading.own h.members.followers (length vars)) body.vars
-          heading.members.stand in
+      heading.members.stand in
       let right = are_right (names_at vs i) (length l.base.vars) heading.own l.base e free
-          heading.own h.members.followers l.followers (omega arith) body.followers stand in
+      heading.own h.members.followers l.followers (omega arith) body.followers stand in
       record {
         follower_count = omega (arith, heading.few.1, n);
         own_var = omega (arith, right.first, heading.some);
@@ -472,9 +482,9 @@ leaders_are_right f most cross taken d ds ls m c l e =
     let few = listed_ok 1 most d ds l in
     let n = each_counts (add_heading f taken) (headings_count f taken) 0 [] ds hs.0 hs.1 in
     let headings = each_keeps AreHeadings (add_heading f taken) (headings_keep f taken) 0 [] ds hs.0
-        (record { names = no_names; each_one = All-nil IsHeading }) hs.1 in
+    (record { names = no_names; each_one = All-nil IsHeading }) hs.1 in
     let are = leaders_are (map heading_name hs.0) (map variable_names hs.0) f cross c hs.0 ls
-        hs.2 in
+    hs.2 in
     sound hs.0 ls are headings (omega (arith, few.0, n)) (omega (arith, few.1, n, m))
 
 -- the source of a value keeps the rules
@@ -482,7 +492,7 @@ pub source_is_right : (d : Data) (ls : SourceOf) → source_in d ≡ Ok ls → I
 source_is_right d ls e =
     let o = bind_ok (object_in d) _ ls e in
     let f = bind_ok (needed (codes "format") format_in d) (λ f. players_of_in f 16 65536 [] d) ls
-        o.2 in
+    o.2 in
     let at = needed_ok (codes "players") (players_in f.0 16 65536 []) d ls f.2 in
     let ds = bind_ok (listed 1 16 at.0) (leaders_in f.0 65536 []) ls at.1 in
     leaders_are_right f.0 16 65536 [] at.0 ds.0 ls (omega arith) (omega arith) ds.1 ds.2

@@ -96,7 +96,7 @@ module _ (names : List Name) where
       let kn = bind_ok (known_in names at.0) (new_variable before) var.0 at.1 in
       let new = guard_ok Twice (taken nat_cmp before kn.0) kn.0 var.0 kn.2 in
       let below : var.0 < length names =
-          subst (λ v. v < length names) new.1 (known_below names at.0 kn.0 kn.1) in
+      subst (λ v. v < length names) new.1 (known_below names at.0 kn.0 kn.1) in
       let e : insert_entry nat_cmp before var.0 num.0 ≡ after = cc (num.2) in
       subst AreKept e (ordered_insert nat_cmp nat_cmp_total (λ v. v < length names) IsNumber
       before var.0 num.0 below (whole_ok _ z.0 num.0 z.1) a)
@@ -107,10 +107,10 @@ module _ (names : List Name) where
   terms_are_right d ts h =
       let ds = bind_ok (items_in d) _ ts h in
       let all = bind_ok (each (add_term names) 0 [] ds.0) (λ all. Ok (filter is_term all)) ts
-          ds.2 in
+      ds.2 in
       let e : filter is_term all.0 ≡ ts = cc (all.2) in
       let kept = ordered_filter nat_cmp (λ v. v < length names) all.0
-          (each_keeps AreKept (add_term names) add_keeps 0 [] ds.0 all.0 tt all.1) in
+      (each_keeps AreKept (add_term names) add_keeps 0 [] ds.0 all.0 tt all.1) in
       subst (λ ts. AreTerms (length names) ts) e
       (ascends (length names) 0 (filter is_term all.0) (starts_at_zero (filter is_term all.0)) kept)
 

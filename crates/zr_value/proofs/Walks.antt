@@ -25,7 +25,7 @@ module _ {S A T U : Type 0} (add : S → A → Read S) (see : T → A) (start : 
       → Walked add see start vs (i + 1) (content x)
   walked_more x h =
       let e : under (decimal i) (add s (see v)) ≡ Ok (content x) =
-          placed_reads content (decimal i) result (Ok x) (add s (see v)) h read in
+      placed_reads content (decimal i) result (Ok x) (add s (see v)) h read in
       record { rest = walked.rest ∙ step ∙ rw e refl }
 
   -- an item has a fault

@@ -137,11 +137,7 @@ pub fn missing_item(alloc: Global, i: usize) -> GameError
 }
 
 /// The error of a value that stands at a name of an object.
-pub fn placed<T>(
-    alloc: Global,
-    name: &str,
-    read: Result<T, GameError>,
-) -> Result<T, GameError>
+pub fn placed<T>(alloc: Global, name: &str, read: Result<T, GameError>) -> Result<T, GameError>
     ensures { Placed name.now read result }
 {
     match read {
@@ -155,11 +151,7 @@ pub fn placed<T>(
 }
 
 /// The error of a value that stands at a number of a list.
-pub fn numbered<T>(
-    alloc: Global,
-    i: usize,
-    read: Result<T, GameError>,
-) -> Result<T, GameError>
+pub fn numbered<T>(alloc: Global, i: usize, read: Result<T, GameError>) -> Result<T, GameError>
     ensures { Placed (decimal i) read result }
 {
     match read {

@@ -11,6 +11,6 @@ pub use fault::{GameError, GameFault, at, missing, missing_item, numbered, place
 pub use names::{Known, Names, read_known, read_known_part, read_name_member, read_new_name};
 pub use terms::{opposite_terms, read_terms};
 pub use values::{
-    read_items, read_listed, read_name, read_number, read_number_part, read_object, read_text, read_truth,
-    read_tuple, read_whole,
+    read_items, read_listed, read_name, read_number, read_number_part, read_object, read_text,
+    read_truth, read_tuple, read_whole,
 };

@@ -8,5 +8,5 @@ pub returns-clause-numbers : goal.returns-clause-numbers
 returns-clause-numbers c =
     let ts = c.in_ok-without_zeros.field-0.items in
     let e : terms_in c.args.names.now (view c.args.value.now) ≡ Ok ts =
-        rw (c.in_ok-items.ensures) (rw (c.in_ok-all.ensures) (rw (c.in_ok-without_zeros.ensures) refl)) in
+    rw (c.in_ok-items.ensures) (rw (c.in_ok-all.ensures) (rw (c.in_ok-without_zeros.ensures) refl)) in
     numbers_are_right c.args.names.now (view c.args.value.now) ts e
