@@ -123,7 +123,7 @@ module _ (P : ℤ → Type 0) where
       (λ form. column_sums n (suc low) (t ∷ ts) num s form narrow)) (cases_eq t.0 low)
 
 -- the first of so many
-first_apart : (n : ℕ) (g : ℕ → ℤ) → sum_to (suc n) g ≡ g 0 +ℤ sum_to n (λ j. g (suc j))
+pub first_apart : (n : ℕ) (g : ℕ → ℤ) → sum_to (suc n) g ≡ g 0 +ℤ sum_to n (λ j. g (suc j))
 first_apart zero g = omega (arith, ints)
 first_apart (suc n) g = let r = first_apart n g in omega (arith, ints, r)
 

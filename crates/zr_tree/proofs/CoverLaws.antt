@@ -13,7 +13,7 @@ use Rattle.zr_game.specs.Leaves.{HasPoint, LeafOf, MeetsLeaf, above, below, deci
 use Rattle.zr_game.proofs.Holding.{Inside, all_slots, in_root, slot_holds}
 use Rattle.zr_tree.specs.Nodes.{ProofNode}
 use Rattle.zr_tree.specs.Trees.{TreeOf, Split, Choose, Proof, Known, Loose}
-use Rattle.zr_tree.specs.Covers.{HoldPoints, IsCover, RegionOf, high_child, low_child, regions_at, side_child}
+use Rattle.zr_tree.specs.Covers.{HoldPoints, IsCoverTree, CoverLeaf, high_child, low_child, cover_leaves, side_child}
 use Rattle.zr_tree.proofs.Descent.{end_refutes, one_choice, one_side}
 use Rattle.zr_tree.proofs.Listing.{is_below}
 use Rattle.zr_tree.proofs.SettledLeaves.{KeepsRoot, above_keeps, below_keeps, decided_keeps, root_keeps, settled_feasible}
@@ -53,38 +53,38 @@ module _ (player : PlayerOf) (rows : All (IsRowForm (length player.vars)) player
 
   -- ---- each exact leaf
 
-  abbrev IsExact : RegionOf → Type 0
-  IsExact region = region.exact ≡ true
-      → ((x : PointOf) → MeetsLeaf player region.leaf x → IsFeasible player x)
-      × HasPoint player region.leaf
+  abbrev IsExact : CoverLeaf → Type 0
+  IsExact item = item.exact ≡ true
+      → ((x : PointOf) → MeetsLeaf player item.leaf x → IsFeasible player x)
+      × HasPoint player item.leaf
 
-  all_exact : (t : TreeOf) (leaf : LeafOf) → KeepsRoot player leaf → IsCover player leaf t
-      → Each IsExact (regions_at player leaf t)
+  all_exact : (t : TreeOf) (leaf : LeafOf) → KeepsRoot player leaf → IsCoverTree player leaf t
+      → Each IsExact (cover_leaves player leaf t)
   all_exact (Split v at first second) leaf keeps cover =
       let inside = slice_get_within player.vars v cover.0.0 cover.0.1 in
-      each_join IsExact (regions_at player (low_child player leaf v at) first)
-      (regions_at player (high_child player leaf v at) second)
-      (subst (λ (l : LeafOf). Each IsExact (regions_at player l first))
+      each_join IsExact (cover_leaves player (low_child player leaf v at) first)
+      (cover_leaves player (high_child player leaf v at) second)
+      (subst (λ (l : LeafOf). Each IsExact (cover_leaves player l first))
       (sym (low_is leaf v at inside))
       (all_exact first (below leaf v at) (below_keeps player leaf keeps v at) cover.1))
-      (subst (λ (l : LeafOf). Each IsExact (regions_at player l second))
+      (subst (λ (l : LeafOf). Each IsExact (cover_leaves player l second))
       (sym (high_is leaf v at inside))
       (all_exact second (above leaf v at) (above_keeps player leaf keeps v at) cover.2))
   all_exact (Choose p first second) leaf keeps cover =
-      each_join IsExact (regions_at player (side_child player leaf p VarZero) first)
-      (regions_at player (side_child player leaf p RowZero) second)
-      (subst (λ (l : LeafOf). Each IsExact (regions_at player l first))
+      each_join IsExact (cover_leaves player (side_child player leaf p VarZero) first)
+      (cover_leaves player (side_child player leaf p RowZero) second)
+      (subst (λ (l : LeafOf). Each IsExact (cover_leaves player l first))
       (sym (side_is leaf p VarZero cover.0.0))
       (all_exact first (decided leaf p VarZero) (decided_keeps player leaf keeps p VarZero)
       cover.1))
-      (subst (λ (l : LeafOf). Each IsExact (regions_at player l second))
+      (subst (λ (l : LeafOf). Each IsExact (cover_leaves player l second))
       (sym (side_is leaf p RowZero cover.0.0))
       (all_exact second (decided leaf p RowZero) (decided_keeps player leaf keeps p RowZero)
       cover.2))
   all_exact (Proof scale mult) leaf keeps cover = tt
   all_exact (Known y) leaf keeps cover = (
     (λ e. (
-      λ x meets. settled_feasible player leaf keeps rows pairs zeros x meets cover.0,
+      λ x meets. settled_feasible player leaf keeps x meets rows pairs zeros cover.0,
       (y, cover.1),
     )),
     tt,
@@ -103,56 +103,56 @@ module _ (player : PlayerOf) (rows : All (IsRowForm (length player.vars)) player
           rows = λ k row e. slot_holds player x (slots player leaf) k row all e;
         }
 
-    abbrev IsIn : List RegionOf → Type 0
-    IsIn regions = (k : ℕ) × (region : RegionOf) × (slice_get regions k ≡ Some region)
-        × MeetsLeaf player region.leaf x
+    abbrev IsIn : List CoverLeaf → Type 0
+    IsIn leaves = (k : ℕ) × (item : CoverLeaf) × (slice_get leaves k ≡ Some item)
+        × MeetsLeaf player item.leaf x
 
-    in_front : (xs ys : List RegionOf) → IsIn xs → IsIn (xs ++ ys)
+    in_front : (xs ys : List CoverLeaf) → IsIn xs → IsIn (xs ++ ys)
     in_front xs ys h = (h.0, h.1, get_front xs ys h.0 h.1 h.2, h.3)
 
-    in_back : (xs ys : List RegionOf) → IsIn ys → IsIn (xs ++ ys)
+    in_back : (xs ys : List CoverLeaf) → IsIn ys → IsIn (xs ++ ys)
     in_back xs ys h = (length xs + h.0, h.1, get_back xs ys h.0 h.1 h.2, h.3)
 
-    in_regions : (t : TreeOf) (leaf : LeafOf) → Inside player leaf x → IsCover player leaf t
-        → IsIn (regions_at player leaf t)
-    in_regions (Split v at first second) leaf inside cover =
+    in_leaves : (t : TreeOf) (leaf : LeafOf) → Inside player leaf x → IsCoverTree player leaf t
+        → IsIn (cover_leaves player leaf t)
+    in_leaves (Split v at first second) leaf inside cover =
         let below_all = slice_get_within player.vars v cover.0.0 cover.0.1 in
-        let xs = regions_at player (low_child player leaf v at) first in
-        let ys = regions_at player (high_child player leaf v at) second in
+        let xs = cover_leaves player (low_child player leaf v at) first in
+        let ys = cover_leaves player (high_child player leaf v at) second in
         ⊎_elim (λ (s : Inside player (below leaf v at) x). in_front xs ys
-        (subst (λ (l : LeafOf). IsIn (regions_at player l first))
-        (sym (low_is leaf v at below_all)) (in_regions first (below leaf v at) s cover.1)))
+        (subst (λ (l : LeafOf). IsIn (cover_leaves player l first))
+        (sym (low_is leaf v at below_all)) (in_leaves first (below leaf v at) s cover.1)))
         (λ (s : Inside player (above leaf v at) x). in_back xs ys
-        (subst (λ (l : LeafOf). IsIn (regions_at player l second))
-        (sym (high_is leaf v at below_all)) (in_regions second (above leaf v at) s cover.2)))
+        (subst (λ (l : LeafOf). IsIn (cover_leaves player l second))
+        (sym (high_is leaf v at below_all)) (in_leaves second (above leaf v at) s cover.2)))
         (one_side player x feasible leaf inside v at cover.0)
-    in_regions (Choose p first second) leaf inside cover =
-        let xs = regions_at player (side_child player leaf p VarZero) first in
-        let ys = regions_at player (side_child player leaf p RowZero) second in
+    in_leaves (Choose p first second) leaf inside cover =
+        let xs = cover_leaves player (side_child player leaf p VarZero) first in
+        let ys = cover_leaves player (side_child player leaf p RowZero) second in
         ⊎_elim (λ (s : Inside player (decided leaf p VarZero) x). in_front xs ys
-        (subst (λ (l : LeafOf). IsIn (regions_at player l first))
+        (subst (λ (l : LeafOf). IsIn (cover_leaves player l first))
         (sym (side_is leaf p VarZero cover.0.0))
-        (in_regions first (decided leaf p VarZero) s cover.1)))
+        (in_leaves first (decided leaf p VarZero) s cover.1)))
         (λ (s : Inside player (decided leaf p RowZero) x). in_back xs ys
-        (subst (λ (l : LeafOf). IsIn (regions_at player l second))
+        (subst (λ (l : LeafOf). IsIn (cover_leaves player l second))
         (sym (side_is leaf p RowZero cover.0.0))
-        (in_regions second (decided leaf p RowZero) s cover.2)))
+        (in_leaves second (decided leaf p RowZero) s cover.2)))
         (one_choice player x feasible leaf inside p cover.0.0)
-    in_regions (Proof scale mult) leaf inside cover =
+    in_leaves (Proof scale mult) leaf inside cover =
         absurd (end_refutes player x feasible rows pairs leaf (ProofNode scale mult) inside cover)
-    in_regions (Known y) leaf inside cover =
+    in_leaves (Known y) leaf inside cover =
         (0, record { leaf = leaf; exact = true }, refl, inside_meets leaf inside)
-    in_regions Loose leaf inside cover =
+    in_leaves Loose leaf inside cover =
         (0, record { leaf = leaf; exact = false }, refl, inside_meets leaf inside)
 
-  pub cover_holds : (t : TreeOf) → IsCover player (root_leaf player) t
-      → HoldPoints player (regions_at player (root_leaf player) t)
+  pub cover_holds : (t : TreeOf) → IsCoverTree player (root_leaf player) t
+      → HoldPoints player (cover_leaves player (root_leaf player) t)
   cover_holds t cover =
       let exact = all_exact t (root_leaf player) (root_keeps player) cover in
-      let regions = regions_at player (root_leaf player) t in
+      let leaves = cover_leaves player (root_leaf player) t in
       record {
-        covers = λ x feasible. in_regions x feasible t (root_leaf player)
+        covers = λ x feasible. in_leaves x feasible t (root_leaf player)
             (in_root player x feasible) cover;
-        settled = λ k region e kept. (get_each IsExact regions k region exact e kept).0;
-        has_point = λ k region e kept. (get_each IsExact regions k region exact e kept).1;
+        settled = λ k item e kept. (get_each IsExact leaves k item exact e kept).0;
+        has_point = λ k item e kept. (get_each IsExact leaves k item exact e kept).1;
       }

@@ -10,7 +10,7 @@ use Rattle.zr_game.specs.Leaves.{IsLeafOf, LeafOf, leaf_of}
 use Rattle.zr_game.proofs.LeafLaws.{same_leaf}
 use Rattle.zr_tree.specs.Nodes.{NodeOf}
 use Rattle.zr_tree.specs.Trees.{TreeOf, Split, Choose, Proof, Known, Loose, preorder}
-use Rattle.zr_tree.specs.Covers.{high_child, leaves_at, low_child, regions_at, side_child}
+use Rattle.zr_tree.specs.Covers.{high_child, leaves_at, low_child, cover_leaves, side_child}
 use Rattle.zr_game.specs.declared.leaf.Side.{Side}
 use Rattle.zr_game.specs.declared.leaf.Side.TheVariants.{Undecided, VarZero, RowZero}
 use Rattle.zr_tree.specs.Openings.{Opened, kid_leaves, own_leaves, upcoming, upcoming_on}
@@ -56,11 +56,11 @@ module _ (player : PlayerOf) where
       sym (append_assoc (leaves_at player x u) (leaves_all xs us) (leaves_all ys vs))
 
   both_children : (a b : LeafOf) (first second : TreeOf)
-      → map (λ region. region.leaf) (regions_at player a first ++ regions_at player b second)
+      → map (λ item. item.leaf) (cover_leaves player a first ++ cover_leaves player b second)
       ≡ leaves_at player a first ++ (leaves_at player b second ++ [])
   both_children a b first second =
-      map-append (λ region. region.leaf) (regions_at player a first)
-      (regions_at player b second) ∙
+      map-append (λ item. item.leaf) (cover_leaves player a first)
+      (cover_leaves player b second) ∙
       ap (λ (ls : List LeafOf). leaves_at player a first ++ ls)
       (sym (append-nil (leaves_at player b second)))
 

@@ -76,8 +76,8 @@ module _ (player : PlayerOf) where
     pub decided_keeps : (p : ℕ) (side : Side) → KeepsRoot player (decided leaf p side)
     decided_keeps p side = record { lows = keeps.lows; ups = keeps.ups }
 
-    module _ (rows : All (IsRowForm (length player.vars)) player.rows) (pairs : All (IsPairForm (length player.vars)) player.pairs) (zeros : All (λ pair. IsFromZero player.vars pair.var) player.pairs) (x : PointOf) (meets : MeetsLeaf player leaf x) where
-      low_kept : (v : ℕ) (low : ℤ) → v < length player.vars → (o : Option ℤ) → leaf.low v ≡ o
+    module _ (x : PointOf) (meets : MeetsLeaf player leaf x) where
+      pub low_kept : (v : ℕ) (low : ℤ) → v < length player.vars → (o : Option ℤ) → leaf.low v ≡ o
           → IsRaised o low → (low *ℤ x.den) ≤ℤ num_of x v
       low_kept v low h None e k = absurd k
       low_kept v low h (Some a) e k =
@@ -93,74 +93,77 @@ module _ (player : PlayerOf) where
           let t = le_times a up x.den meets.point k in
           omega (arith, ints, r, t)
 
-      bound_found : (v : ℕ) (var : VarOf) (pick : VarOf → Option ℤ) (b : ℤ)
-          → slice_get player.vars v ≡ Some var → pick var ≡ Some b
-          → option_and_then pick (slice_get player.vars v) ≡ Some b
-      bound_found v var pick b e f = ap (option_and_then pick) e ∙ f
+      module _ (rows : All (IsRowForm (length player.vars)) player.rows)
+          (pairs : All (IsPairForm (length player.vars)) player.pairs)
+          (zeros : All (λ pair. IsFromZero player.vars pair.var) player.pairs) where
+        bound_found : (v : ℕ) (var : VarOf) (pick : VarOf → Option ℤ) (b : ℤ)
+            → slice_get player.vars v ≡ Some var → pick var ≡ Some b
+            → option_and_then pick (slice_get player.vars v) ≡ Some b
+        bound_found v var pick b e f = ap (option_and_then pick) e ∙ f
 
-      module _ (v : ℕ) (var : VarOf) (is : slice_get player.vars v ≡ Some var) where
-        inside : v < length player.vars
-        inside = slice_get_within player.vars v var is
+        module _ (v : ℕ) (var : VarOf) (is : slice_get player.vars v ≡ Some var) where
+          inside : v < length player.vars
+          inside = slice_get_within player.vars v var is
 
-        low_holds : (o : Option ℤ) → var.low ≡ o → IfSome o (λ low. (low *ℤ x.den) ≤ℤ num_of x v)
-        low_holds None e = tt
-        low_holds (Some low) e =
-            low_kept v low inside (leaf.low v) refl
-            (keeps.lows v low (bound_found v var (λ u. u.low) low is e))
+          low_holds : (o : Option ℤ) → var.low ≡ o → IfSome o (λ low. (low *ℤ x.den) ≤ℤ num_of x v)
+          low_holds None e = tt
+          low_holds (Some low) e =
+              low_kept v low inside (leaf.low v) refl
+              (keeps.lows v low (bound_found v var (λ u. u.low) low is e))
 
-        up_holds : (o : Option ℤ) → var.up ≡ o → IfSome o (λ up. num_of x v ≤ℤ (up *ℤ x.den))
-        up_holds None e = tt
-        up_holds (Some up) e =
-            up_kept v up inside (leaf.high v) refl
-            (keeps.ups v up (bound_found v var (λ u. u.up) up is e))
+          up_holds : (o : Option ℤ) → var.up ≡ o → IfSome o (λ up. num_of x v ≤ℤ (up *ℤ x.den))
+          up_holds None e = tt
+          up_holds (Some up) e =
+              up_kept v up inside (leaf.high v) refl
+              (keeps.ups v up (bound_found v var (λ u. u.up) up is e))
 
-        pub within_bounds : (IsTrue var.whole → IsMultiple (num_of x v) x.den)
-            → IsWithin var (num_of x v) x.den
-        within_bounds whole = record {
-          low = low_holds var.low refl;
-          high = up_holds var.up refl;
-          whole = whole;
+          pub within_bounds : (IsTrue var.whole → IsMultiple (num_of x v) x.den)
+              → IsWithin var (num_of x v) x.den
+          within_bounds whole = record {
+            low = low_holds var.low refl;
+            high = up_holds var.up refl;
+            whole = whole;
+          }
+
+        module _ (p : ℕ) (pair : PairOf) (is : slice_get player.pairs p ≡ Some pair) (form : IsPairForm (length player.vars) pair) (zero_low : IsFromZero player.vars pair.var) where
+          pub var_up : (pos 0) ≤ℤ num_of x pair.var
+          var_up =
+              let u = at_number player.vars pair.var form.var in
+              let e = bound_found pair.var u.0 (λ w. w.low) (pos 0) u.1 (zero_low u.0 u.1) in
+              let r = low_kept pair.var (pos 0) form.var (leaf.low pair.var) refl
+              (keeps.lows pair.var (pos 0) e) in
+              omega (arith, ints, r)
+
+          pub pair_kept : (side : Side) → leaf.side p ≡ side → (side ≡ Undecided → ⊥)
+              → PairHolds x pair
+          pair_kept Undecided e open_ = absurd (open_ refl)
+          pair_kept VarZero e open_ =
+              let a = var_up in
+              let b = var_reads player x leaf meets p pair is form e in
+              (a, slack_reads player x leaf meets p pair is form, inl (omega (arith, ints, a, b)))
+          pair_kept RowZero e open_ =
+              let a = slack_reads player x leaf meets p pair is form in
+              let b = zero_reads player x leaf meets p pair is form e in
+              (var_up, a, inr (omega (arith, ints, a, b)))
+
+        -- a settled leaf fixes what has to be whole, and decides each pair
+        pub settled_feasible : IsSettled player leaf → IsFeasible player x
+        settled_feasible settled = record {
+          point = meets.point;
+          len = meets.len;
+          bounds = λ v var e. within_bounds v var e (λ t. whole v var e t);
+          rows = λ k d h. row_reads player x leaf meets k (get_or player.rows k d)
+              (slice_get-get_or player.rows k d h) (rows k d h);
+          pairs = λ k d h. pair_kept k (get_or player.pairs k d)
+              (slice_get-get_or player.pairs k d h) (pairs k d h) (zeros k d h) (leaf.side k) refl
+              (λ e. settled.pairs k h e);
         }
-
-      module _ (p : ℕ) (pair : PairOf) (is : slice_get player.pairs p ≡ Some pair) (form : IsPairForm (length player.vars) pair) (zero_low : IsFromZero player.vars pair.var) where
-        pub var_up : (pos 0) ≤ℤ num_of x pair.var
-        var_up =
-            let u = at_number player.vars pair.var form.var in
-            let e = bound_found pair.var u.0 (λ w. w.low) (pos 0) u.1 (zero_low u.0 u.1) in
-            let r = low_kept pair.var (pos 0) form.var (leaf.low pair.var) refl
-            (keeps.lows pair.var (pos 0) e) in
-            omega (arith, ints, r)
-
-        pub pair_kept : (side : Side) → leaf.side p ≡ side → (side ≡ Undecided → ⊥)
-            → PairHolds x pair
-        pair_kept Undecided e open_ = absurd (open_ refl)
-        pair_kept VarZero e open_ =
-            let a = var_up in
-            let b = var_reads player x leaf meets p pair is form e in
-            (a, slack_reads player x leaf meets p pair is form, inl (omega (arith, ints, a, b)))
-        pair_kept RowZero e open_ =
-            let a = slack_reads player x leaf meets p pair is form in
-            let b = zero_reads player x leaf meets p pair is form e in
-            (var_up, a, inr (omega (arith, ints, a, b)))
-
-      -- a settled leaf fixes what has to be whole, and decides each pair
-      pub settled_feasible : IsSettled player leaf → IsFeasible player x
-      settled_feasible settled = record {
-        point = meets.point;
-        len = meets.len;
-        bounds = λ v var e. within_bounds v var e (λ t. whole v var e t);
-        rows = λ k d h. row_reads player x leaf meets k (get_or player.rows k d)
-            (slice_get-get_or player.rows k d h) (rows k d h);
-        pairs = λ k d h. pair_kept k (get_or player.pairs k d)
-            (slice_get-get_or player.pairs k d h) (pairs k d h) (zeros k d h) (leaf.side k) refl
-            (λ e. settled.pairs k h e);
-      }
-        where
-          whole : (v : ℕ) (var : VarOf) → slice_get player.vars v ≡ Some var → IsTrue var.whole
-              → IsMultiple (num_of x v) x.den
-          whole v var e t =
-              let s = settled.vars v var e t in
-              let l = slice_get_within player.vars v var e in
-              let a = low_reads player x leaf meets v s.0 l s.1 in
-              let b = high_reads player x leaf meets v s.0 l s.2 in
-              (s.0, omega (arith, ints, a, b))
+          where
+            whole : (v : ℕ) (var : VarOf) → slice_get player.vars v ≡ Some var → IsTrue var.whole
+                → IsMultiple (num_of x v) x.den
+            whole v var e t =
+                let s = settled.vars v var e t in
+                let l = slice_get_within player.vars v var e in
+                let a = low_reads player x leaf meets v s.0 l s.1 in
+                let b = high_reads player x leaf meets v s.0 l s.2 in
+                (s.0, omega (arith, ints, a, b))

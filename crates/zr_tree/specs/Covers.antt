@@ -23,8 +23,8 @@ KeepsCover player leaf (KnownNode x) = IsKnown player leaf x
 KeepsCover player leaf LooseNode = Unit {0}
 
 -- the tree is a cover of the leaf
-abbrev pub IsCover : PlayerOf → LeafOf → TreeOf → Type 0
-IsCover player leaf tree = IsRightBy (KeepsCover player) player leaf tree
+abbrev pub IsCoverTree : PlayerOf → LeafOf → TreeOf → Type 0
+IsCoverTree player leaf tree = IsRightBy (KeepsCover player) player leaf tree
 
 -- the children of a split, which are the leaf itself where the player has no such variable
 abbrev pub low_child : PlayerOf → LeafOf → ℕ → ℤ → LeafOf
@@ -39,34 +39,34 @@ side_child player leaf p side =
     if nat_lt p (length player.pairs) then decided leaf p side else leaf
 
 -- a leaf of a cover, and whether it is exact: a Known node's leaf is, a Loose node's isn't
-pub record RegionOf : Type 0 where
+pub record CoverLeaf : Type 0 where
   pub leaf : LeafOf
   pub exact : Bool
 
 -- the leaves at a tree's Known and Loose nodes, in order
-abbrev pub regions_at : PlayerOf → LeafOf → TreeOf → List RegionOf
-regions_at player leaf (Split v at first second) =
-    regions_at player (low_child player leaf v at) first
-    ++ regions_at player (high_child player leaf v at) second
-regions_at player leaf (Choose p first second) =
-    regions_at player (side_child player leaf p VarZero) first
-    ++ regions_at player (side_child player leaf p RowZero) second
-regions_at player leaf (Proof scale mult) = []
-regions_at player leaf (Known x) = record { leaf = leaf; exact = true } ∷ []
-regions_at player leaf Loose = record { leaf = leaf; exact = false } ∷ []
+abbrev pub cover_leaves : PlayerOf → LeafOf → TreeOf → List CoverLeaf
+cover_leaves player leaf (Split v at first second) =
+    cover_leaves player (low_child player leaf v at) first
+    ++ cover_leaves player (high_child player leaf v at) second
+cover_leaves player leaf (Choose p first second) =
+    cover_leaves player (side_child player leaf p VarZero) first
+    ++ cover_leaves player (side_child player leaf p RowZero) second
+cover_leaves player leaf (Proof scale mult) = []
+cover_leaves player leaf (Known x) = record { leaf = leaf; exact = true } ∷ []
+cover_leaves player leaf Loose = record { leaf = leaf; exact = false } ∷ []
 
 -- the leaves alone
 abbrev pub leaves_at : PlayerOf → LeafOf → TreeOf → List LeafOf
-leaves_at player leaf tree = map (λ region. region.leaf) (regions_at player leaf tree)
+leaves_at player leaf tree = map (λ item. item.leaf) (cover_leaves player leaf tree)
 
 -- each feasible point is in one of the leaves; the points of an exact leaf are feasible, and it
 -- has one
-pub record HoldPoints (player : PlayerOf) (regions : List RegionOf) : Type 0 where
+pub record HoldPoints (player : PlayerOf) (leaves : List CoverLeaf) : Type 0 where
   pub covers : (x : PointOf) → IsFeasible player x
-      → (k : ℕ) × (region : RegionOf) × (slice_get regions k ≡ Some region)
-      × MeetsLeaf player region.leaf x
-  pub settled : (k : ℕ) (region : RegionOf) → slice_get regions k ≡ Some region
-      → region.exact ≡ true → (x : PointOf) → MeetsLeaf player region.leaf x
+      → (k : ℕ) × (item : CoverLeaf) × (slice_get leaves k ≡ Some item)
+      × MeetsLeaf player item.leaf x
+  pub settled : (k : ℕ) (item : CoverLeaf) → slice_get leaves k ≡ Some item
+      → item.exact ≡ true → (x : PointOf) → MeetsLeaf player item.leaf x
       → IsFeasible player x
-  pub has_point : (k : ℕ) (region : RegionOf) → slice_get regions k ≡ Some region
-      → region.exact ≡ true → HasPoint player region.leaf
+  pub has_point : (k : ℕ) (item : CoverLeaf) → slice_get leaves k ≡ Some item
+      → item.exact ≡ true → HasPoint player item.leaf

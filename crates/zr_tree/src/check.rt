@@ -15,7 +15,7 @@ ghost use Rattle.zr_tree.specs.Steps.{HasWideProof, IsRefusedAt, Passes};
 ghost use Rattle.zr_tree.specs.Scratches.{most_pairs, most_vars};
 ghost use Rattle.zr_tree.specs.Paths.{Entered, HasPlaces, IsPathOf, IsSameSize};
 ghost use Rattle.zr_tree.specs.Visits.{HasForms, children};
-ghost use Rattle.zr_tree.specs.Covers.{HoldPoints, IsCover, regions_at};
+ghost use Rattle.zr_tree.specs.Covers.{HoldPoints, IsCoverTree, cover_leaves};
 ghost use Rattle.zr_tree.specs.CoverSteps.{CoverPasses, IsRefusedCover, IsWideCover};
 ghost use Rattle.zr_tree.specs.Tasks.{FitsColumns, NodeDoes, NodeFails, TreeDoes, TreeFails};
 
@@ -106,11 +106,11 @@ pub fn cover(game: &Game, i: u32, tree: &Tree, scratch: &mut Scratch) -> Result<
         → IsRefusedCover player 0 (root_leaf player) t fault) }
     ensures exact { (player : PlayerOf) → IsPlayer (game_of game.now) i player
         → (t : TreeOf) → IsTreeOf tree.now t
-        → IsOk result ↔ (IsCover player (root_leaf player) t
+        → IsOk result ↔ (IsCoverTree player (root_leaf player) t
         × (IsWideCover player (root_leaf player) t → ⊥)) }
     ensures sound { OnOk result ((player : PlayerOf) → IsPlayer (game_of game.now) i player
         → (t : TreeOf) → IsTreeOf tree.now t
-        → HoldPoints player (regions_at player (root_leaf player) t)) }
+        → HoldPoints player (cover_leaves player (root_leaf player) t)) }
     ensures places { scratch.new ≡ scratch.old }
 {
     let player = &game.players[i as usize];

@@ -9,7 +9,7 @@ ghost use Rattle.zr_tree.specs.Form.{IsTree};
 ghost use Rattle.zr_tree.specs.Trees.{TreeOf, preorder};
 ghost use Rattle.zr_tree.specs.Right.{IsRefuted, IsRight};
 ghost use Rattle.zr_tree.specs.Steps.{HasWideProof, IsRefusedAt, Passes};
-ghost use Rattle.zr_tree.specs.Covers.{HoldPoints, IsCover, regions_at};
+ghost use Rattle.zr_tree.specs.Covers.{HoldPoints, IsCoverTree, cover_leaves};
 ghost use Rattle.zr_tree.specs.CoverSteps.{CoverPasses, IsRefusedCover, IsWideCover};
 ghost use Rattle.zr_tree.specs.declared.fault.Fault.{Fault};
 
@@ -55,7 +55,7 @@ pub fn law_of_refuted_trees()
 /// not refused, and a tree that is refused has one fault.
 pub fn law_of_passing_covers()
     ensures passes { (player : PlayerOf) (leaf : LeafOf) (t : TreeOf) → CoverPasses player leaf t
-        ↔ (IsCover player leaf t × (IsWideCover player leaf t → ⊥)) }
+        ↔ (IsCoverTree player leaf t × (IsWideCover player leaf t → ⊥)) }
     ensures apart { (player : PlayerOf) (k : ℕ) (leaf : LeafOf) (t : TreeOf) (fault : Fault)
         → CoverPasses player leaf t → IsRefusedCover player k leaf t fault → ⊥ }
     ensures one { (player : PlayerOf) (k : ℕ) (leaf : LeafOf) (t : TreeOf) (f g : Fault)
@@ -66,8 +66,8 @@ pub fn law_of_passing_covers()
 /// an exact leaf are feasible, and there is one.
 pub fn law_of_covers()
     ensures { (game : GameOf) → IsGame game → (i : ℕ) (player : PlayerOf) → IsPlayer game i player
-        → (t : TreeOf) → IsCover player (root_leaf player) t
-        → HoldPoints player (regions_at player (root_leaf player) t) }
+        → (t : TreeOf) → IsCoverTree player (root_leaf player) t
+        → HoldPoints player (cover_leaves player (root_leaf player) t) }
 {}
 
 /// A leaf has a slot for each of the player's rows, and two for each variable and for each pair.
