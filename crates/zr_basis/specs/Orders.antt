@@ -24,7 +24,8 @@ pub record IsValueOrder (p : Program) (basis : ℕ → ℕ) (order : Order) : Ty
   pub count : order.count ≡ value_column p + 1
   pub value : order.column 0 ≡ value_column p
   pub off : (k : ℕ) → k < p.columns → IsFree p basis (order.column (k + 1))
-  pub once : (j k : ℕ) → j < p.columns → k < p.columns → order.column (j + 1) ≡ order.column (k + 1) → j ≡ k
+  pub once : (j k : ℕ) → j < p.columns → k < p.columns → order.column (j + 1) ≡ order.column (k + 1)
+      → j ≡ k
   pub on : (i : ℕ) → i < p.rows → order.column (p.columns + 1 + i) ≡ basis i
 
 -- what x has at column j; at the value's, the aim's value at x

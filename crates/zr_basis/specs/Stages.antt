@@ -3,7 +3,8 @@ use Rattle.std.specs.Prelude.{◌≡◌, ℕ, ◌<◌, ◌≤◌, ℤ, pos, ◌<
 use Rattle.zr_basis.specs.Programs.{Program}
 use Rattle.zr_basis.specs.BasicForms.{right_column, value_column, CombinesEquations, IsBasicForm}
 
--- a combination of the program's equations that is zero at the columns of the basis is zero at each column
+-- a combination of the program's equations that is zero at the columns of the basis is zero at each
+-- column
 abbrev pub Determines : Program → (ℕ → ℕ) → Type 0
 Determines p basis =
     (e : ℕ → ℤ)

@@ -37,7 +37,8 @@ CountsFew p old new =
 -- a run that begins so, of the counted pivots, comes to a basic form, and there the answer is due
 abbrev pub IsReachedAnswer : (p : Program) → (Run p → Type 0) → Purse → Purse → LpAnswer → Type 0
 IsReachedAnswer p Begins old new a =
-    (run : Run p) × Begins run × CountsPivots old new run.pivots × IsBasicAnswer p (end_of p run).basis (end_of p run).form a
+    (run : Run p) × Begins run × CountsPivots old new run.pivots
+    × IsBasicAnswer p (end_of p run).basis (end_of p run).form a
 
 -- the step is one of a point or a ray that is due at the form
 abbrev pub IsEndStep : Program → (ℕ → ℕ → ℤ) → Step → Type 0
@@ -57,13 +58,18 @@ IsDueStep p run (AStep.Pivot row col at_row at_col) = IsPivotDue p run row col
 IsDueStep p run (AStep.Point row) = IsEndStep p (end_of p run).form (AStep.Point row)
 IsDueStep p run (AStep.Ray row col) = IsEndStep p (end_of p run).form (AStep.Ray row col)
 
--- a run that begins so, of the counted pivots, comes to the basis, and there the step is due and too wide
-abbrev pub IsStuckAfter : (p : Program) → (Run p → Type 0) → Purse → Purse → (ℕ → ℕ) → Step → AWide → Type 0
+-- a run that begins so, of the counted pivots, comes to the basis, and there the step is due and
+-- too wide
+abbrev pub IsStuckAfter : (p : Program) → (Run p → Type 0) → Purse → Purse → (ℕ → ℕ) → Step → AWide
+    → Type 0
 IsStuckAfter p Begins old new basis step wide =
-    (run : Run p) × Begins run × CountsPivots old new run.pivots × ((end_of p run).basis ≡ basis) × IsDueStep p run step × IsWideStep p (end_of p run).basis (end_of p run).form step wide
+    (run : Run p) × Begins run × CountsPivots old new run.pivots × ((end_of p run).basis ≡ basis)
+    × IsDueStep p run step × IsWideStep p (end_of p run).basis (end_of p run).form step wide
 
--- want of memory; or the kept basis, which the pivots of a run that begins so reach, is stuck at the kept step, which is due
+-- want of memory; or the kept basis, which the pivots of a run that begins so reach, is stuck at
+-- the kept step, which is due
 abbrev pub IsCause : (p : Program) → (Run p → Type 0) → Purse → Purse → Stop → Type 0
 IsCause p Begins old new NoMemory = Unit {0}
 IsCause p Begins old new (Wide stuck) =
-    IsStuck p stuck × IsStuckAfter p Begins old new (λ i. slice_index stuck.basis.items i) stuck.step stuck.wide
+    IsStuck p stuck × IsStuckAfter p Begins old new
+    (λ i. slice_index stuck.basis.items i) stuck.step stuck.wide

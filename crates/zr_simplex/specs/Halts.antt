@@ -50,12 +50,15 @@ pub record IsFrom (p : Program) (origin : Origin) (run : Run p) : Type 0 where
   pub basis : (run.stage 0).basis ≡ origin.basis
   pub form : (run.stage 0).form ≡ origin.form
 
--- want of memory; or a run from there, of the counted pivots, comes to the basis, and there the step is due and too wide
+-- want of memory; or a run from there, of the counted pivots, comes to the basis, and there the
+-- step is due and too wide
 abbrev pub IsMissAfter : Program → Origin → Purse → Purse → (ℕ → ℕ) → Miss → Type 0
 IsMissAfter p origin old new basis AMiss.NoMemory = Unit {0}
-IsMissAfter p origin old new basis (AMiss.Wide step w) = IsStuckAfter p (IsFrom p origin) old new basis step w
+IsMissAfter p origin old new basis (AMiss.Wide step w) =
+    IsStuckAfter p (IsFrom p origin) old new basis step w
 
 -- a run from there, of the counted pivots, comes to this basis and form
 abbrev pub HasRun : Program → Origin → Purse → Purse → (ℕ → ℕ) → (ℕ → ℕ → ℤ) → Type 0
 HasRun p origin old new basis form =
-    (run : Run p) × IsFrom p origin run × CountsPivots old new run.pivots × ((end_of p run).basis ≡ basis) × ((end_of p run).form ≡ form)
+    (run : Run p) × IsFrom p origin run × CountsPivots old new run.pivots
+    × ((end_of p run).basis ≡ basis) × ((end_of p run).form ≡ form)

@@ -24,7 +24,8 @@ program_of lp = record {
   aim = numbers lp.aim.items;
 }
 
--- no row is strict, the aim has a number for each column, no number is too wide, and columns and rows are at most 2^32 - 3
+-- no row is strict, the aim has a number for each column, no number is too wide, and columns and
+-- rows are at most 2^32 - 3
 pub record IsLp (lp : Lp) : Type 0 where
   pub rows : All (IsIneq lp.columns) (lp_rows lp)
   pub weak : All (λ row. row.strict ≡ false) (lp_rows lp)

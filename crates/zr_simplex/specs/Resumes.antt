@@ -22,7 +22,8 @@ abbrev pub basis_kept : Option Equations → Option (List ℕ)
 basis_kept None = None
 basis_kept (Some t) = Some t.basis
 
--- the slack of the new row, which takes the number of the value's column, has come into the basis; or none is kept
+-- the slack of the new row, which takes the number of the value's column, has come into the basis;
+-- or none is kept
 abbrev pub IsAppended : ℕ → Option (List ℕ) → Option (List ℕ) → Type 0
 IsAppended value old None = Unit {0}
 IsAppended value None (Some new) = ⊥
@@ -38,9 +39,11 @@ IsResumedAnswer p (Some basis) old new a =
 abbrev pub IsGivenUp : Program → Option (List ℕ) → Purse → Purse → Type 0
 IsGivenUp p None old new = new ≡ old
 IsGivenUp p (Some basis) old new =
-    (stop : Stop) × IsCause p (IsFromBasis p (λ i. slice_index basis i)) old new stop × CountsFew p old new
+    (stop : Stop) × IsCause p (IsFromBasis p (λ i. slice_index basis i)) old new stop
+    × CountsFew p old new
 
--- a run from the basis leads to the answer; or going on was given up, and then a run from the slacks does
+-- a run from the basis leads to the answer; or going on was given up, and then a run from the
+-- slacks does
 abbrev pub IsOpenAnswer : Program → Option (List ℕ) → Purse → Purse → LpAnswer → Type 0
 IsOpenAnswer p basis old new a =
     IsResumedAnswer p basis old new a
@@ -51,7 +54,8 @@ abbrev pub IsOpenCause : Program → Option (List ℕ) → Purse → Purse → S
 IsOpenCause p basis old new stop =
     (mid : Purse) × IsGivenUp p basis old mid × IsCause p (IsFromSlacks p) mid new stop
 
--- the pivots were few; where there was a basis to go on from, those from it and then those from the slacks
+-- the pivots were few; where there was a basis to go on from, those from it and then those from the
+-- slacks
 abbrev pub CountsOpenFew : Program → Option (List ℕ) → Purse → Purse → Type 0
 CountsOpenFew p None old new = CountsFew p old new
 CountsOpenFew p (Some basis) old new = (mid : Purse) × CountsFew p old mid × CountsFew p mid new
@@ -72,4 +76,5 @@ IsNoLeast (Unbounded point ray) = Unit {0}
 abbrev pub KeepsBasis : Program → Option (List ℕ) → LpAnswer → Type 0
 KeepsBasis p None a = IsNoLeast a
 KeepsBasis p (Some basis) a =
-    (form : ℕ → ℕ → ℤ) × IsBasicForm p (λ i. slice_index basis i) form × IsBasicAnswer p (λ i. slice_index basis i) form a
+    (form : ℕ → ℕ → ℤ) × IsBasicForm p (λ i. slice_index basis i) form
+    × IsBasicAnswer p (λ i. slice_index basis i) form a

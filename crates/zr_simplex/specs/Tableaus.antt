@@ -1,11 +1,14 @@
--- The equations that the method keeps, condensed: of each the numbers at the columns off the basis, the right side among them, and then its number at its own column. At the other columns of the basis it is zero.
+-- The equations that the method keeps, condensed: of each the numbers at the columns off the basis,
+-- the right side among them, and then its number at its own column. At the other columns of the
+-- basis it is zero.
 use Rattle.std.specs.Prelude.{◌≡◌, ◌≢◌, ℕ, ◌+◌, ◌*◌, ◌<◌, ℤ, pos, ◌==◌, if◌then◌else◌, ◌⊎◌, List, take, drop, length, slice_index, slice_index_or}
 use Rattle.zr_simplex.specs.declared.columns.Column.{Column}
 use Rattle.zr_simplex.specs.declared.columns.Column.TheVariants.{Basic, Free}
 use Rattle.zr_basis.specs.Orders.{Order}
 use Rattle.zr_simplex.specs.Programs.{numbers}
 
--- a basis, the columns off it, where each column stands, how many there are, and the condensed equations one after the other
+-- a basis, the columns off it, where each column stands, how many there are, and the condensed
+-- equations one after the other
 pub record Equations : Type 0 where
   pub basis : List ℕ
   pub free : List ℕ
@@ -17,10 +20,14 @@ pub record Equations : Type 0 where
 pub record IsPartition (width : ℕ) (basis free : List ℕ) : Type 0 where
   pub basic_below : (i : ℕ) → i < length basis → slice_index basis i < width
   pub free_below : (k : ℕ) → k < length free → slice_index free k < width
-  pub each : (j : ℕ) → j < width → ((i : ℕ) × (i < length basis) × (slice_index basis i ≡ j)) ⊎ ((k : ℕ) × (k < length free) × (slice_index free k ≡ j))
-  pub apart : (i k : ℕ) → i < length basis → k < length free → slice_index basis i ≢ slice_index free k
-  pub basic_once : (i k : ℕ) → i < length basis → k < length basis → slice_index basis i ≡ slice_index basis k → i ≡ k
-  pub free_once : (i k : ℕ) → i < length free → k < length free → slice_index free i ≡ slice_index free k → i ≡ k
+  pub each : (j : ℕ) → j < width → ((i : ℕ) × (i < length basis) × (slice_index basis i ≡ j))
+      ⊎ ((k : ℕ) × (k < length free) × (slice_index free k ≡ j))
+  pub apart : (i k : ℕ) → i < length basis → k < length free
+      → slice_index basis i ≢ slice_index free k
+  pub basic_once : (i k : ℕ) → i < length basis → k < length basis
+      → slice_index basis i ≡ slice_index basis k → i ≡ k
+  pub free_once : (i k : ℕ) → i < length free → k < length free
+      → slice_index free i ≡ slice_index free k → i ≡ k
 
 -- where column j stands
 abbrev pub column_at : List Column → ℕ → Column

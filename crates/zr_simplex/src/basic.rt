@@ -43,12 +43,19 @@ fn over_basis(
     requires lp { IsLp lp.now }
     requires kept { IsTableau (program_of lp.now) tableau.now }
     requires from { from < tableau.now.width }
-    ensures len { IfOk result (λ made. length made.0.items ≡ lp.now.columns + length lp.now.rows.items) }
-    ensures on { IfOk result (λ made. (i : ℕ) → i < length lp.now.rows.items → IsNumerator (basis_of tableau.now) (form_of tableau.now) made.1 (λ i. signed negated (form_of tableau.now i from)) i (numbers made.0.items (basis_of tableau.now i))) }
-    ensures off { IfOk result (λ made. (j : ℕ) → ((i : ℕ) → i < length lp.now.rows.items → j ≢ basis_of tableau.now i) → numbers made.0.items j ≡ pos 0) }
+    ensures len { IfOk result (λ made. length made.0.items ≡ lp.now.columns + length
+        lp.now.rows.items) }
+    ensures on { IfOk result (λ made. (i : ℕ) → i < length lp.now.rows.items
+        → IsNumerator (basis_of tableau.now) (form_of tableau.now) made.1
+        (λ i. signed negated (form_of tableau.now i from)) i
+        (numbers made.0.items (basis_of tableau.now i))) }
+    ensures off { IfOk result (λ made. (j : ℕ)
+        → ((i : ℕ) → i < length lp.now.rows.items → j ≢ basis_of tableau.now i)
+        → numbers made.0.items j ≡ pos 0) }
     ensures narrow { IfOk result (λ made. All IsNarrow made.0.items) }
     ensures den { IfOk result (λ made. (pos 0 <ℤ made.1) × IsNarrow made.1) }
-    ensures halts { IfErr result (HaltsAt (length lp.now.rows.items) (basis_of tableau.now) (form_of tableau.now) (λ i. signed negated (form_of tableau.now i from))) }
+    ensures halts { IfErr result (HaltsAt (length lp.now.rows.items) (basis_of tableau.now)
+        (form_of tableau.now) (λ i. signed negated (form_of tableau.now i from))) }
 {
     let rows = lp.rows.len();
     let den = match common_multiple(tableau, rows) {
@@ -89,8 +96,10 @@ fn make_point(num: Vec<i128>, den: i128) -> Point
 pub(crate) fn point_of(alloc: Global, lp: &Lp, tableau: &Tableau) -> Result<Point, Miss>
     requires lp { IsLp lp.now }
     requires kept { IsTableau (program_of lp.now) tableau.now }
-    ensures point { IfOk result (IsBasicPoint (program_of lp.now) (basis_of tableau.now) (form_of tableau.now)) }
-    ensures halts { IfErr result (IsMiss (program_of lp.now) (basis_of tableau.now) (form_of tableau.now) IsPointStep) }
+    ensures point { IfOk result (IsBasicPoint (program_of lp.now) (basis_of tableau.now)
+        (form_of tableau.now)) }
+    ensures halts { IfErr result (IsMiss (program_of lp.now) (basis_of tableau.now)
+        (form_of tableau.now) IsPointStep) }
 {
     let right = lp.columns as usize + lp.rows.len() + 1;
     match over_basis(alloc, lp, tableau, right, false) {
@@ -114,8 +123,10 @@ pub(crate) fn ray_of(
     requires kept { IsTableau (program_of lp.now) tableau.now }
     requires column { column < value_column (program_of lp.now) }
     requires free { (i : ℕ) → i < length lp.now.rows.items → column ≢ basis_of tableau.now i }
-    ensures ray { IfOk result (λ ray. IsBasicRay (program_of lp.now) (basis_of tableau.now) (form_of tableau.now) column ray.items) }
-    ensures halts { IfErr result (IsMiss (program_of lp.now) (basis_of tableau.now) (form_of tableau.now) (IsRayStep column)) }
+    ensures ray { IfOk result (λ ray. IsBasicRay (program_of lp.now) (basis_of tableau.now)
+        (form_of tableau.now) column ray.items) }
+    ensures halts { IfErr result (IsMiss (program_of lp.now) (basis_of tableau.now)
+        (form_of tableau.now) (IsRayStep column)) }
 {
     match over_basis(alloc, lp, tableau, column, true) {
         Ok((mut ray, den)) => {

@@ -39,9 +39,18 @@ pub(crate) fn next_due(
     requires order { IsOrder (program_of lp.now) (order_of order.now) }
     requires lp { IsLp lp.now }
     requires kept { IsTableau (program_of lp.now) tableau.now }
-    requires start { MatchOption start.old (Unit {0}) (λ kept. IsStartBasis (program_of lp.now) kept.items × IsFeasibleForm (program_of lp.now) (form_of tableau.now)) }
-    ensures due { IfOk result (λ due. MatchOption start.new (IsMendingDue (program_of lp.now) (order_of order.now) (basis_of tableau.now) (form_of tableau.now) due) (λ kept. IsImprovingDue (program_of lp.now) (λ i. slice_index kept.items i) (form_of tableau.now) due)) }
-    ensures kept { MatchOption start.old (MatchOption start.new (Unit {0}) (λ kept. (kept.items ≡ tableau.now.basis) × IsFeasibleForm (program_of lp.now) (form_of tableau.now))) (λ kept. start.new ≡ Some kept) }
+    requires start { MatchOption start.old (Unit {0})
+        (λ kept. IsStartBasis (program_of lp.now) kept.items
+        × IsFeasibleForm (program_of lp.now) (form_of tableau.now)) }
+    ensures due { IfOk result (λ due. MatchOption start.new
+        (IsMendingDue (program_of lp.now) (order_of order.now) (basis_of tableau.now)
+        (form_of tableau.now) due) (λ kept. IsImprovingDue (program_of lp.now)
+        (λ i. slice_index kept.items i) (form_of tableau.now) due)) }
+    ensures kept { MatchOption start.old
+        (MatchOption start.new (Unit {0})
+        (λ kept. (kept.items ≡ tableau.now.basis)
+        × IsFeasibleForm (program_of lp.now) (form_of tableau.now)))
+        (λ kept. start.new ≡ Some kept) }
 {
     if let Some(kept) = start {
         return Ok(improving_due(lp, tableau, kept));
@@ -61,7 +70,9 @@ fn mending_due(lp: &Lp, tableau: &Tableau, order: &[u32]) -> Option<Due>
     requires order { IsOrder (program_of lp.now) (order_of order.now) }
     requires lp { IsLp lp.now }
     requires kept { IsTableau (program_of lp.now) tableau.now }
-    ensures { MatchOption result (IsFeasibleForm (program_of lp.now) (form_of tableau.now)) (IsMendingDue (program_of lp.now) (order_of order.now) (basis_of tableau.now) (form_of tableau.now)) }
+    ensures { MatchOption result (IsFeasibleForm (program_of lp.now) (form_of tableau.now))
+        (IsMendingDue (program_of lp.now) (order_of order.now) (basis_of tableau.now)
+        (form_of tableau.now)) }
 {
     let Some(row) = row_to_mend(lp, tableau) else {
         return None;
@@ -72,14 +83,15 @@ fn mending_due(lp: &Lp, tableau: &Tableau, order: &[u32]) -> Option<Due>
     }
 }
 
-/// What is due where no right side is below zero: a pivot by the primal rule, whose vectors are read
-/// by the basis `start`, or the end.
+/// What is due where no right side is below zero: a pivot by the primal rule, whose vectors are
+/// read by the basis `start`, or the end.
 fn improving_due(lp: &Lp, tableau: &Tableau, start: &[u32]) -> Due
     requires lp { IsLp lp.now }
     requires kept { IsTableau (program_of lp.now) tableau.now }
     requires start { IsStartBasis (program_of lp.now) start.now }
     requires feasible { IsFeasibleForm (program_of lp.now) (form_of tableau.now) }
-    ensures { IsImprovingDue (program_of lp.now) (λ i. slice_index start.now i) (form_of tableau.now) result }
+    ensures { IsImprovingDue (program_of lp.now) (λ i. slice_index start.now i)
+        (form_of tableau.now) result }
 {
     let Some(column) = column_to_raise(lp, tableau) else {
         return Due::Best;
@@ -94,7 +106,9 @@ fn improving_due(lp: &Lp, tableau: &Tableau, start: &[u32]) -> Due
 fn row_to_mend(lp: &Lp, tableau: &Tableau) -> Option<usize>
     requires lp { IsLp lp.now }
     requires kept { IsTableau (program_of lp.now) tableau.now }
-    ensures { MatchOption result (IsFeasibleForm (program_of lp.now) (form_of tableau.now)) (λ i. (i < length lp.now.rows.items) × (form_of tableau.now i (right_column (program_of lp.now)) <ℤ pos 0)) }
+    ensures { MatchOption result (IsFeasibleForm (program_of lp.now) (form_of tableau.now))
+        (λ i. (i < length lp.now.rows.items)
+        × (form_of tableau.now i (right_column (program_of lp.now)) <ℤ pos 0)) }
 {
     let right = right_of(lp);
     for i in 0..lp.rows.len() {
@@ -121,7 +135,10 @@ fn column_to_enter(lp: &Lp, tableau: &Tableau, order: &[u32], row: usize) -> Opt
     requires order { IsOrder (program_of lp.now) (order_of order.now) }
     requires row { row < length lp.now.rows.items }
     requires right { form_of tableau.now row (right_column (program_of lp.now)) <ℤ pos 0 }
-    ensures { MatchOption result ((j : ℕ) → j < value_column (program_of lp.now) → pos 0 ≤ℤ form_of tableau.now row j) (IsDualDue (program_of lp.now) (order_of order.now) (basis_of tableau.now) (form_of tableau.now) row) }
+    ensures { MatchOption result ((j : ℕ) → j < value_column (program_of lp.now)
+        → pos 0 ≤ℤ form_of tableau.now row j)
+        (IsDualDue (program_of lp.now) (order_of order.now) (basis_of tableau.now)
+        (form_of tableau.now) row) }
 {
     match place_to_enter(lp, tableau, order, row) {
         Some(place) => Some(tableau.free(place)),
@@ -136,7 +153,11 @@ fn place_to_enter(lp: &Lp, tableau: &Tableau, order: &[u32], row: usize) -> Opti
     requires order { IsOrder (program_of lp.now) (order_of order.now) }
     requires row { row < length lp.now.rows.items }
     requires right { form_of tableau.now row (right_column (program_of lp.now)) <ℤ pos 0 }
-    ensures { MatchOption result ((j : ℕ) → j < value_column (program_of lp.now) → pos 0 ≤ℤ form_of tableau.now row j) (λ place. (place < lp.now.columns) × IsDualDue (program_of lp.now) (order_of order.now) (basis_of tableau.now) (form_of tableau.now) row (free_of tableau.now place)) }
+    ensures { MatchOption result ((j : ℕ) → j < value_column (program_of lp.now)
+        → pos 0 ≤ℤ form_of tableau.now row j)
+        (λ place. (place < lp.now.columns)
+        × IsDualDue (program_of lp.now) (order_of order.now) (basis_of tableau.now)
+        (form_of tableau.now) row (free_of tableau.now place)) }
 {
     let mut best = None;
     for place in 0..lp.columns as usize {
@@ -163,8 +184,14 @@ fn better_place(
     requires row { row < length lp.now.rows.items }
     requires place { place < lp.now.columns }
     requires under { form_of tableau.now row (free_of tableau.now place) <ℤ pos 0 }
-    requires best { MatchOption best (Unit {0}) (λ last. (last < place) × (form_of tableau.now row (free_of tableau.now last) <ℤ pos 0)) }
-    ensures { MatchOption best (result ≡ place) (λ last. ((result ≡ place) × IsDirectionBelow (program_of lp.now) (order_of order.now) (basis_of tableau.now) (form_of tableau.now) row (free_of tableau.now place) (free_of tableau.now last)) ⊎ ((result ≡ last) × (IsDirectionBelow (program_of lp.now) (order_of order.now) (basis_of tableau.now) (form_of tableau.now) row (free_of tableau.now place) (free_of tableau.now last) → ⊥))) }
+    requires best { MatchOption best (Unit {0})
+        (λ last. (last < place) × (form_of tableau.now row (free_of tableau.now last) <ℤ pos 0)) }
+    ensures { MatchOption best (result ≡ place)
+        (λ last. ((result ≡ place) × IsDirectionBelow (program_of lp.now) (order_of order.now)
+        (basis_of tableau.now) (form_of tableau.now) row (free_of tableau.now place)
+        (free_of tableau.now last)) ⊎ ((result ≡ last)
+        × (IsDirectionBelow (program_of lp.now) (order_of order.now) (basis_of tableau.now)
+        (form_of tableau.now) row (free_of tableau.now place) (free_of tableau.now last) → ⊥))) }
 {
     let Some(last) = best else {
         return place;
@@ -197,8 +224,10 @@ fn is_lower_direction(
     requires apart { column ≢ last }
     requires under { form_of tableau.now row column <ℤ pos 0 }
     requires under_last { form_of tableau.now row last <ℤ pos 0 }
-    ensures yes { result ≡ true → IsDirectionBelow (program_of lp.now) (order_of order.now) (basis_of tableau.now) (form_of tableau.now) row column last }
-    ensures no { result ≡ false → IsDirectionBelow (program_of lp.now) (order_of order.now) (basis_of tableau.now) (form_of tableau.now) row column last → ⊥ }
+    ensures yes { result ≡ true → IsDirectionBelow (program_of lp.now) (order_of order.now)
+        (basis_of tableau.now) (form_of tableau.now) row column last }
+    ensures no { result ≡ false → IsDirectionBelow (program_of lp.now) (order_of order.now)
+        (basis_of tableau.now) (form_of tableau.now) row column last → ⊥ }
 {
     for place in 0..order.len() {
         match compare_directions(lp, tableau, row, column, last, order[place] as usize) {
@@ -229,7 +258,9 @@ fn compare_directions(
     requires apart { column ≢ last }
     requires under { form_of tableau.now row column <ℤ pos 0 }
     requires under_last { form_of tableau.now row last <ℤ pos 0 }
-    ensures { (c : ℕ → ℤ) → IsComparison (program_of lp.now) (basis_of tableau.now) (form_of tableau.now) row column last c → MatchOrdering result (pos 0 <ℤ c at) (c at ≡ pos 0) (c at <ℤ pos 0) }
+    ensures { (c : ℕ → ℤ) → IsComparison (program_of lp.now) (basis_of tableau.now)
+        (form_of tableau.now) row column last c
+        → MatchOrdering result (pos 0 <ℤ c at) (c at ≡ pos 0) (c at <ℤ pos 0) }
 {
     if at == last {
         return Ordering::Less;
@@ -252,7 +283,9 @@ fn compare_at_row(tableau: &Tableau, row: usize, column: usize, last: usize, at:
     requires last { last < tableau.now.width }
     requires under { form_of tableau.now row column <ℤ pos 0 }
     requires under_last { form_of tableau.now row last <ℤ pos 0 }
-    ensures { result ≡ int_cmp (form_of tableau.now at last *ℤ neg_ℤ (form_of tableau.now row column)) (form_of tableau.now at column *ℤ neg_ℤ (form_of tableau.now row last)) }
+    ensures { result ≡ int_cmp (form_of tableau.now at last *ℤ neg_ℤ
+        (form_of tableau.now row column))
+        (form_of tableau.now at column *ℤ neg_ℤ (form_of tableau.now row last)) }
 {
     compare_ratios(
         tableau.number(at, last),
@@ -266,7 +299,10 @@ fn compare_at_row(tableau: &Tableau, row: usize, column: usize, last: usize, at:
 fn column_to_raise(lp: &Lp, tableau: &Tableau) -> Option<usize>
     requires lp { IsLp lp.now }
     requires kept { IsTableau (program_of lp.now) tableau.now }
-    ensures { MatchOption result ((j : ℕ) → j < value_column (program_of lp.now) → form_of tableau.now (length lp.now.rows.items) j ≤ℤ pos 0) (λ j. (j < value_column (program_of lp.now)) × (pos 0 <ℤ form_of tableau.now (length lp.now.rows.items) j)) }
+    ensures { MatchOption result ((j : ℕ) → j < value_column (program_of lp.now)
+        → form_of tableau.now (length lp.now.rows.items) j ≤ℤ pos 0)
+        (λ j. (j < value_column (program_of lp.now))
+        × (pos 0 <ℤ form_of tableau.now (length lp.now.rows.items) j)) }
 {
     let value = lp.rows.len();
     for place in 0..lp.columns as usize {
@@ -286,7 +322,10 @@ fn row_to_leave(lp: &Lp, tableau: &Tableau, start: &[u32], column: usize) -> Opt
     requires start { IsStartBasis (program_of lp.now) start.now }
     requires column { column < value_column (program_of lp.now) }
     requires falls { pos 0 <ℤ form_of tableau.now (length lp.now.rows.items) column }
-    ensures { MatchOption result ((i : ℕ) → i < length lp.now.rows.items → form_of tableau.now i column ≤ℤ pos 0) (λ row. IsPrimalDue (program_of lp.now) (λ i. slice_index start.now i) (form_of tableau.now) row column) }
+    ensures { MatchOption result ((i : ℕ) → i < length lp.now.rows.items
+        → form_of tableau.now i column ≤ℤ pos 0)
+        (λ row. IsPrimalDue (program_of lp.now) (λ i. slice_index start.now i)
+        (form_of tableau.now) row column) }
 {
     let mut best = None;
     for i in 0..lp.rows.len() {
@@ -312,8 +351,13 @@ fn better_row(
     requires row { row < length lp.now.rows.items }
     requires column { column < value_column (program_of lp.now) }
     requires above { pos 0 <ℤ form_of tableau.now row column }
-    requires best { MatchOption best (Unit {0}) (λ last. (last < length lp.now.rows.items) × (pos 0 <ℤ form_of tableau.now last column)) }
-    ensures { MatchOption best (result ≡ row) (λ last. ((result ≡ row) × IsRowBelow (program_of lp.now) (λ i. slice_index start.now i) (form_of tableau.now) column row last) ⊎ ((result ≡ last) × (IsRowBelow (program_of lp.now) (λ i. slice_index start.now i) (form_of tableau.now) column row last → ⊥))) }
+    requires best { MatchOption best (Unit {0})
+        (λ last. (last < length lp.now.rows.items) × (pos 0 <ℤ form_of tableau.now last column)) }
+    ensures { MatchOption best (result ≡ row)
+        (λ last. ((result ≡ row) × IsRowBelow (program_of lp.now) (λ i. slice_index start.now i)
+        (form_of tableau.now) column row last)
+        ⊎ ((result ≡ last) × (IsRowBelow (program_of lp.now) (λ i. slice_index start.now i)
+        (form_of tableau.now) column row last → ⊥))) }
 {
     match best {
         Some(last) if !is_lower_row(lp, tableau, start, row, last, column) => last,
@@ -338,8 +382,10 @@ fn is_lower_row(
     requires column { column < value_column (program_of lp.now) }
     requires above { pos 0 <ℤ form_of tableau.now row column }
     requires above_last { pos 0 <ℤ form_of tableau.now last column }
-    ensures yes { result ≡ true → IsRowBelow (program_of lp.now) (λ i. slice_index start.now i) (form_of tableau.now) column row last }
-    ensures no { result ≡ false → IsRowBelow (program_of lp.now) (λ i. slice_index start.now i) (form_of tableau.now) column row last → ⊥ }
+    ensures yes { result ≡ true → IsRowBelow (program_of lp.now) (λ i. slice_index start.now i)
+        (form_of tableau.now) column row last }
+    ensures no { result ≡ false → IsRowBelow (program_of lp.now) (λ i. slice_index start.now i)
+        (form_of tableau.now) column row last → ⊥ }
 {
     for k in 0..lp.rows.len() + 1 {
         match compare_at(tableau, row, last, column, place_at(lp, start, k)) {
@@ -374,7 +420,8 @@ fn compare_at(tableau: &Tableau, row: usize, other: usize, column: usize, at: us
     requires at { at < tableau.now.width }
     requires above { pos 0 <ℤ form_of tableau.now row column }
     requires above_other { pos 0 <ℤ form_of tableau.now other column }
-    ensures { result ≡ int_cmp (form_of tableau.now row at *ℤ form_of tableau.now other column) (form_of tableau.now other at *ℤ form_of tableau.now row column) }
+    ensures { result ≡ int_cmp (form_of tableau.now row at *ℤ form_of tableau.now other column)
+        (form_of tableau.now other at *ℤ form_of tableau.now row column) }
 {
     compare_ratios(
         tableau.number(row, at),

@@ -16,7 +16,9 @@ pub(crate) enum Column {
 /// The place of an equation's number at a column that stands there, or nothing if it is zero.
 pub(crate) fn place_of(column: Column, row: usize, own: usize) -> Option<usize>
     requires { (place : ℕ) → column ≡ IsFree place → place < own }
-    ensures { MatchOption result ((xs : List ℤ) → number_at own row xs column ≡ pos 0) (λ place. (place ≤ own) × ((xs : List ℤ) → number_at own row xs column ≡ numbers xs place)) }
+    ensures { MatchOption result ((xs : List ℤ) → number_at own row xs column ≡ pos 0)
+        (λ place. (place ≤ own) × ((xs : List ℤ)
+        → number_at own row xs column ≡ numbers xs place)) }
 {
     match column {
         Column::Basic(of) if of as usize == row => Some(own),
@@ -32,7 +34,8 @@ pub(crate) fn made_column(basis: &[u32], free: &[u32], row: usize, place: usize,
     requires at { e.row < length basis.now }
     requires place { e.at.place ≤ length free.now }
     ensures own { e.at.place ≡ length free.now → result ≡ slice_index basis.now e.row }
-    ensures entered { e.at.place ≢ length free.now → result ≡ slice_index (slice_set free.now place (slice_index basis.now row)) e.at.place }
+    ensures entered { e.at.place ≢ length free.now
+        → result ≡ slice_index (slice_set free.now place (slice_index basis.now row)) e.at.place }
 {
     if e.at.place == free.len() {
         basis[e.row] as usize
@@ -77,19 +80,24 @@ pub(crate) fn add_slack(
     columns: &mut Vec<Column>,
 ) -> Result<(), AllocError>
     requires columns { AreColumns basis.old.items free.old columns.old.items }
-    requires value { (i : ℕ) → i + 1 ≡ length basis.old.items → slice_index basis.old.items i + 2 ≡ length columns.old.items }
-    requires right { (k : ℕ) → k + 1 ≡ length free.old → slice_index free.old k + 1 ≡ length columns.old.items }
+    requires value { (i : ℕ) → i + 1 ≡ length basis.old.items
+        → slice_index basis.old.items i + 2 ≡ length columns.old.items }
+    requires right { (k : ℕ) → k + 1 ≡ length free.old
+        → slice_index free.old k + 1 ≡ length columns.old.items }
     requires some { 0 < length basis.old.items }
     requires some_free { 0 < length free.old }
     requires size { length columns.old.items < 4294967295 }
     requires size_basis { length basis.old.items < 4294967296 }
     requires size_free { length free.old < 4294967296 }
     ensures len { length free.new ≡ length free.old }
-    ensures basis { OnOk result (basis.new.items ≡ basis.old.items ++ (length columns.old.items - 1) ∷ []) }
-    ensures free { OnOk result (free.new ≡ slice_set free.old (length free.old - 1) (length columns.old.items)) }
+    ensures basis { OnOk result (basis.new.items ≡ basis.old.items ++
+        (length columns.old.items - 1) ∷ []) }
+    ensures free { OnOk result (free.new ≡ slice_set free.old (length free.old - 1)
+        (length columns.old.items)) }
     ensures columns { OnOk result (AreColumns basis.new.items free.new columns.new.items) }
     ensures long { OnOk result (length columns.new.items ≡ length columns.old.items + 1) }
-    ensures same { OnOk result ((j : ℕ) → j + 1 < length columns.old.items → column_at columns.new.items j ≡ column_at columns.old.items j) }
+    ensures same { OnOk result ((j : ℕ) → j + 1 < length columns.old.items
+        → column_at columns.new.items j ≡ column_at columns.old.items j) }
 {
     let right = columns.len() - 1;
     let place = free.len() - 1;

@@ -20,10 +20,12 @@ pub(crate) fn listed(
 ) -> Result<Vec<(u32, i128)>, AllocError>
     requires row { row < length tableau.now.basis }
     requires columns { from + count ≤ tableau.now.width }
-    requires sign { (k : ℕ) → k < count → pos 0 ≤ℤ signed negated (form_of tableau.now row (from + k)) }
+    requires sign { (k : ℕ) → k < count
+        → pos 0 ≤ℤ signed negated (form_of tableau.now row (from + k)) }
     ensures ascends { IfOk result (λ list. Ascends 0 count list.items) }
     ensures multipliers { IfOk result (λ list. AreMultipliers count list.items) }
-    ensures numbers { IfOk result (λ list. (k : ℕ) → k < count → coef_at list.items k ≡ signed negated (form_of tableau.now row (from + k))) }
+    ensures numbers { IfOk result (λ list. (k : ℕ) → k < count
+        → coef_at list.items k ≡ signed negated (form_of tableau.now row (from + k))) }
 {
     let mut list = Vec::new(alloc);
     for k in 0..count {

@@ -34,12 +34,21 @@ fn clear_rows(rows: &mut [i128], count: usize, pivot: &[i128], entry: Entry) -> 
     requires narrow_entry { IsNarrow entry.number }
     requires apart { entry.number ≢ pos 0 }
     requires other { numbers pivot.now entry.own ≡ pos 0 }
-    requires above { (i : ℕ) → i < count → pos 0 <ℤ numbers (row_in (length pivot.now) rows.old i) entry.own }
-    requires primitive { (i : ℕ) → i < count → IsPrimitive (length pivot.now) (numbers (row_in (length pivot.now) rows.old i)) }
+    requires above { (i : ℕ) → i < count
+        → pos 0 <ℤ numbers (row_in (length pivot.now) rows.old i) entry.own }
+    requires primitive { (i : ℕ) → i < count
+        → IsPrimitive (length pivot.now) (numbers (row_in (length pivot.now) rows.old i)) }
     ensures len { length rows.new ≡ length rows.old }
     ensures narrow { All IsNarrow rows.new }
-    ensures ok { OnOk result ((i : ℕ) → i < count → IsCleared (length pivot.now) entry.number (numbers (row_in (length pivot.now) rows.old i) entry.place) (numbers pivot.now) (numbers (entered entry.place (row_in (length pivot.now) rows.old i))) (numbers (row_in (length pivot.now) rows.new i)) entry.own) }
-    ensures err { IfErr result (λ e. (e.row < count) × (e.at.place < length pivot.now) × IsWideClear entry.number (numbers (row_in (length pivot.now) rows.old e.row) entry.place) (numbers pivot.now) (numbers (entered entry.place (row_in (length pivot.now) rows.old e.row))) e.at.place e.at.wide) }
+    ensures ok { OnOk result ((i : ℕ) → i < count
+        → IsCleared (length pivot.now) entry.number
+        (numbers (row_in (length pivot.now) rows.old i) entry.place) (numbers pivot.now)
+        (numbers (entered entry.place (row_in (length pivot.now) rows.old i)))
+        (numbers (row_in (length pivot.now) rows.new i)) entry.own) }
+    ensures err { IfErr result (λ e. (e.row < count) × (e.at.place < length pivot.now)
+        × IsWideClear entry.number (numbers (row_in (length pivot.now) rows.old e.row) entry.place)
+        (numbers pivot.now) (numbers (entered entry.place
+        (row_in (length pivot.now) rows.old e.row))) e.at.place e.at.wide) }
 {
     let width = pivot.len();
     for row in 0..count {
@@ -77,7 +86,8 @@ fn enter(pivot: &mut [i128], own: usize, number: i128)
     requires primitive { IsPrimitive (length pivot.old) (numbers (slice_set pivot.old own number)) }
     ensures len { length pivot.new ≡ length pivot.old }
     ensures narrow { All IsNarrow pivot.new }
-    ensures quotient { IsQuotient (length pivot.old) (numbers (slice_set pivot.old own number)) (numbers pivot.new) }
+    ensures quotient { IsQuotient (length pivot.old) (numbers (slice_set pivot.old own number))
+        (numbers pivot.new) }
     ensures own { pos 0 <ℤ numbers pivot.new own }
     ensures primitive { IsPrimitive (length pivot.old) (numbers pivot.new) }
 {
@@ -105,11 +115,17 @@ pub(crate) fn exchange(
     requires place { place < own }
     requires apart { numbers (row_in (own + 1) all.old row) place ≢ pos 0 }
     requires above { (i : ℕ) → i < count → pos 0 <ℤ numbers (row_in (own + 1) all.old i) own }
-    requires primitive { (i : ℕ) → i < count → IsPrimitive (own + 1) (numbers (row_in (own + 1) all.old i)) }
+    requires primitive { (i : ℕ) → i < count
+        → IsPrimitive (own + 1) (numbers (row_in (own + 1) all.old i)) }
     ensures len { length all.new ≡ length all.old }
     ensures narrow { All IsNarrow all.new }
-    ensures ok { OnOk result (IsExchange count own row place (row_in (own + 1) all.old) (row_in (own + 1) all.new)) }
-    ensures err { IfErr result (λ e. (e.row < count) × (e.row ≢ row) × (e.at.place < own + 1) × IsWideClear (numbers (row_in (own + 1) all.old row) place) (numbers (row_in (own + 1) all.old e.row) place) (numbers (left place own (row_in (own + 1) all.old row))) (numbers (entered place (row_in (own + 1) all.old e.row))) e.at.place e.at.wide) }
+    ensures ok { OnOk result (IsExchange count own row place (row_in (own + 1) all.old)
+        (row_in (own + 1) all.new)) }
+    ensures err { IfErr result (λ e. (e.row < count) × (e.row ≢ row) × (e.at.place < own + 1)
+        × IsWideClear (numbers (row_in (own + 1) all.old row) place)
+        (numbers (row_in (own + 1) all.old e.row) place)
+        (numbers (left place own (row_in (own + 1) all.old row)))
+        (numbers (entered place (row_in (own + 1) all.old e.row))) e.at.place e.at.wide) }
 {
     let width = own + 1;
     let start = row * width;

@@ -40,7 +40,9 @@ impl Model for OpenLp {
 
     ghost view = { λ o. record { lp = o.lp; basis = basis_kept o.tableau } };
 
-    ghost invariant = { λ o. IsLp o.lp × MatchOption o.tableau (Unit {0}) (λ t. IsTableau (program_of o.lp) t × IsDualFeasibleForm (program_of o.lp) (form_of t)) };
+    ghost invariant = { λ o. IsLp o.lp
+        × MatchOption o.tableau (Unit {0})
+        (λ t. IsTableau (program_of o.lp) t × IsDualFeasibleForm (program_of o.lp) (form_of t)) };
 }
 
 impl OpenLp {
@@ -74,7 +76,9 @@ impl OpenLp {
         ensures columns { self.new.lp.columns ≡ self.old.lp.columns }
         ensures aim { self.new.lp.aim.items ≡ self.old.lp.aim.items }
         ensures ok { OnOk result (self.new.lp.rows.items ≡ self.old.lp.rows.items ++ row ∷ []) }
-        ensures basis { OnOk result (IsAppended (self.old.lp.columns + length self.old.lp.rows.items + 1) self.old.basis self.new.basis) }
+        ensures basis { OnOk result (IsAppended
+            (self.old.lp.columns + length self.old.lp.rows.items + 1) self.old.basis
+            self.new.basis) }
         ensures err { OnErr result (self.new.lp.rows.items ≡ self.old.lp.rows.items) }
     {
         let tableau = self.tableau.take();
@@ -88,8 +92,9 @@ impl OpenLp {
     ///
     /// Where an earlier solution ended at a least value, it goes on from that basis by the dual
     /// method (C. Lemke, 1954): of the columns where the row is below zero that one enters by which
-    /// the value rises least, and among these the lexicographic order decides, so that no basis comes
-    /// twice. Where that meets a step that is too wide, or wants memory, the program is solved afresh.
+    /// the value rises least, and among these the lexicographic order decides, so that no basis
+    /// comes twice. Where that meets a step that is too wide, or wants memory, the program is
+    /// solved afresh.
     ///
     /// # Errors
     ///
@@ -97,8 +102,10 @@ impl OpenLp {
     pub fn solve(&mut self, alloc: Global, purse: &mut Purse) -> Result<LpAnswer, Stop>
         ensures same { self.new.lp ≡ self.old.lp }
         ensures answer { IfOk result (IsAnswer self.old.lp) }
-        ensures basic { IfOk result (IsOpenAnswer (program_of self.old.lp) self.old.basis purse.old purse.new) }
-        ensures cause { IfErr result (IsOpenCause (program_of self.old.lp) self.old.basis purse.old purse.new) }
+        ensures basic { IfOk result (IsOpenAnswer
+            (program_of self.old.lp) self.old.basis purse.old purse.new) }
+        ensures cause { IfErr result (IsOpenCause
+            (program_of self.old.lp) self.old.basis purse.old purse.new) }
         ensures few { CountsOpenFew (program_of self.old.lp) self.old.basis purse.old purse.new }
         ensures kept { IfOk result (KeepsBasis (program_of self.old.lp) self.new.basis) }
         ensures lost { OnErr result (self.new.basis ≡ None) }
@@ -116,7 +123,8 @@ impl OpenLp {
 
 /// The tableau where the last solution ended, if that was at a least value.
 fn least_kept(tableau: Tableau, found: &LpAnswer) -> Option<Tableau>
-    ensures { MatchOption result (IsNoLeast found.now) (λ kept. (kept ≡ tableau) × HasLeast found.now) }
+    ensures { MatchOption result (IsNoLeast found.now)
+        (λ kept. (kept ≡ tableau) × HasLeast found.now) }
 {
     match found {
         LpAnswer::Best { .. } => Some(tableau),
@@ -128,9 +136,14 @@ fn least_kept(tableau: Tableau, found: &LpAnswer) -> Option<Tableau>
 fn with_last_row(alloc: Global, lp: &Lp, tableau: Option<Tableau>) -> Option<Tableau>
     requires lp { IsLp lp.now }
     requires some { 0 < length lp.now.rows.items }
-    requires kept { (rows : ℕ) → rows + 1 ≡ length lp.now.rows.items → MatchOption tableau (Unit {0}) (λ t. IsTableau (first_rows (program_of lp.now) rows) t × IsDualFeasibleForm (first_rows (program_of lp.now) rows) (form_of t)) }
-    ensures kept { MatchOption result (Unit {0}) (λ t. IsTableau (program_of lp.now) t × IsDualFeasibleForm (program_of lp.now) (form_of t)) }
-    ensures basis { IsAppended (value_column (program_of lp.now)) (basis_kept tableau) (basis_kept result) }
+    requires kept { (rows : ℕ) → rows + 1 ≡ length lp.now.rows.items
+        → MatchOption tableau (Unit {0}) (λ t. IsTableau (first_rows (program_of lp.now) rows) t
+        × IsDualFeasibleForm (first_rows (program_of lp.now) rows) (form_of t)) }
+    ensures kept { MatchOption result (Unit {0})
+        (λ t. IsTableau (program_of lp.now) t
+        × IsDualFeasibleForm (program_of lp.now) (form_of t)) }
+    ensures basis { IsAppended (value_column (program_of lp.now)) (basis_kept tableau)
+        (basis_kept result) }
 {
     append(alloc, lp, tableau?)
 }
@@ -143,12 +156,17 @@ fn solve_on(
     purse: &mut Purse,
 ) -> Result<(Tableau, LpAnswer), Stop>
     requires lp { IsLp lp.now }
-    requires kept { MatchOption tableau (Unit {0}) (λ t. IsTableau (program_of lp.now) t × IsDualFeasibleForm (program_of lp.now) (form_of t)) }
+    requires kept { MatchOption tableau (Unit {0})
+        (λ t. IsTableau (program_of lp.now) t
+        × IsDualFeasibleForm (program_of lp.now) (form_of t)) }
     ensures kept { IfOk result (λ found. IsTableau (program_of lp.now) found.0) }
     ensures answer { IfOk result (λ found. IsAnswer lp.now found.1) }
-    ensures basic { IfOk result (λ found. IsBasicAnswer (program_of lp.now) (basis_of found.0) (form_of found.0) found.1) }
-    ensures open { IfOk result (λ found. IsOpenAnswer (program_of lp.now) (basis_kept tableau) purse.old purse.new found.1) }
-    ensures cause { IfErr result (IsOpenCause (program_of lp.now) (basis_kept tableau) purse.old purse.new) }
+    ensures basic { IfOk result (λ found. IsBasicAnswer (program_of lp.now) (basis_of found.0)
+        (form_of found.0) found.1) }
+    ensures open { IfOk result (λ found. IsOpenAnswer (program_of lp.now)
+        (basis_kept tableau) purse.old purse.new found.1) }
+    ensures cause { IfErr result (IsOpenCause (program_of lp.now)
+        (basis_kept tableau) purse.old purse.new) }
     ensures few { CountsOpenFew (program_of lp.now) (basis_kept tableau) purse.old purse.new }
 {
     let tableau = match tableau {
@@ -173,9 +191,12 @@ fn go_on(
     requires dual { IsDualFeasibleForm (program_of lp.now) (form_of tableau) }
     ensures kept { IfOk result (λ found. IsTableau (program_of lp.now) found.0) }
     ensures answer { IfOk result (λ found. IsAnswer lp.now found.1) }
-    ensures basic { IfOk result (λ found. IsBasicAnswer (program_of lp.now) (basis_of found.0) (form_of found.0) found.1) }
-    ensures reached { IfOk result (λ found. IsReachedAnswer (program_of lp.now) (IsFromBasis (program_of lp.now) (basis_of tableau)) purse.old purse.new found.1) }
-    ensures cause { IfErr result (IsCause (program_of lp.now) (IsFromBasis (program_of lp.now) (basis_of tableau)) purse.old purse.new) }
+    ensures basic { IfOk result (λ found. IsBasicAnswer (program_of lp.now) (basis_of found.0)
+        (form_of found.0) found.1) }
+    ensures reached { IfOk result (λ found. IsReachedAnswer (program_of lp.now)
+        (IsFromBasis (program_of lp.now) (basis_of tableau)) purse.old purse.new found.1) }
+    ensures cause { IfErr result (IsCause (program_of lp.now)
+        (IsFromBasis (program_of lp.now) (basis_of tableau)) purse.old purse.new) }
     ensures few { CountsFew (program_of lp.now) purse.old purse.new }
 {
     let order = match value_order(alloc, lp, &tableau) {
@@ -189,7 +210,9 @@ fn go_on(
 fn value_order(alloc: Global, lp: &Lp, tableau: &Tableau) -> Result<Vec<u32>, AllocError>
     requires lp { IsLp lp.now }
     requires kept { IsTableau (program_of lp.now) tableau.now }
-    ensures { IfOk result (λ order. order.items ≡ value_column (program_of lp.now) ∷ take lp.now.columns tableau.now.free ++ take (length lp.now.rows.items) tableau.now.basis) }
+    ensures { IfOk result (λ order. order.items ≡ value_column
+        (program_of lp.now) ∷ take lp.now.columns tableau.now.free ++ take
+        (length lp.now.rows.items) tableau.now.basis) }
 {
     let mut order = vec![in alloc; lp.columns + lp.rows.len() as u32]?;
     order.extend_from_slice(&tableau.off()[..lp.columns as usize])?;

@@ -72,10 +72,13 @@ fn subtract(row: &mut [i128], pivot: &[i128], by: i128, less: i128) -> Result<u1
     requires len { length row.old ≡ length pivot.now }
     requires narrow { All IsNarrow row.old }
     ensures len { length row.new ≡ length row.old }
-    ensures ok { OnOk result ((j : ℕ) → j < length row.old → cross_of (by, numbers row.old j) (less, numbers pivot.now j) ≡ Ok (numbers row.new j)) }
+    ensures ok { OnOk result ((j : ℕ) → j < length row.old
+        → cross_of (by, numbers row.old j) (less, numbers pivot.now j) ≡ Ok (numbers row.new j)) }
     ensures greatest { IfOk result (IsGreatest (length row.old) (numbers row.new)) }
     ensures narrow { All IsNarrow row.new }
-    ensures err { IfErr result (λ at. (at.place < length row.old) × (cross_of (by, numbers row.old at.place) (less, numbers pivot.now at.place) ≡ Err at.wide)) }
+    ensures err { IfErr result (λ at. (at.place < length row.old)
+        × (cross_of (by, numbers row.old at.place)
+        (less, numbers pivot.now at.place) ≡ Err at.wide)) }
 {
     let mut common = 0;
     for place in 0..row.len() {
@@ -126,7 +129,8 @@ fn divide(row: &mut [i128], by: i128)
     requires narrow { All IsNarrow row.old }
     requires narrow_by { IsNarrow by }
     requires apart { by ≢ pos 0 }
-    requires divides { (j : ℕ) → j < length row.old → unsigned_abs by ∣ unsigned_abs (numbers row.old j) }
+    requires divides { (j : ℕ) → j < length row.old
+        → unsigned_abs by ∣ unsigned_abs (numbers row.old j) }
     ensures len { length row.new ≡ length row.old }
     ensures exact { (j : ℕ) → j < length row.old → numbers row.new j *ℤ by ≡ numbers row.old j }
     ensures narrow { All IsNarrow row.new }
@@ -154,8 +158,8 @@ pub(crate) fn reduce(row: &mut [i128], own: usize, common: u128)
     }
 }
 
-/// Clears the number at the place where a column comes in, by what the pivot's equation leaves
-/// for the others.
+/// Clears the number at the place where a column comes in, by what the pivot's equation leaves for
+/// the others.
 pub(crate) fn clear(row: &mut [i128], pivot: &[i128], entry: Entry) -> Result<(), At>
     requires len { length row.old ≡ length pivot.now }
     requires own { entry.own < length row.old }
@@ -168,9 +172,12 @@ pub(crate) fn clear(row: &mut [i128], pivot: &[i128], entry: Entry) -> Result<()
     requires apart { entry.number ≢ pos 0 }
     requires other { numbers pivot.now entry.own ≡ pos 0 }
     ensures len { length row.new ≡ length row.old }
-    ensures ok { OnOk result (IsCleared (length row.old) entry.number (numbers row.old entry.place) (numbers pivot.now) (numbers (entered entry.place row.old)) (numbers row.new) entry.own) }
+    ensures ok { OnOk result (IsCleared (length row.old) entry.number (numbers row.old entry.place)
+        (numbers pivot.now) (numbers (entered entry.place row.old)) (numbers row.new) entry.own) }
     ensures narrow { All IsNarrow row.new }
-    ensures err { IfErr result (λ at. (at.place < length row.old) × IsWideClear entry.number (numbers row.old entry.place) (numbers pivot.now) (numbers (entered entry.place row.old)) at.place at.wide) }
+    ensures err { IfErr result (λ at. (at.place < length row.old)
+        × IsWideClear entry.number (numbers row.old entry.place) (numbers pivot.now)
+        (numbers (entered entry.place row.old)) at.place at.wide) }
 {
     let number = row[entry.place];
     if number == 0 {

@@ -19,13 +19,17 @@ pub(crate) struct WideAt {
     pub wide: Wide,
 }
 
-/// The least common multiple of the rows' numbers at their own columns; the last equation counts for nothing.
+/// The least common multiple of the rows' numbers at their own columns; the last equation counts
+/// for nothing.
 pub(crate) fn common_multiple(tableau: &Tableau, rows: usize) -> Result<i128, WideAt>
     requires rows { rows + 1 ≡ length tableau.now.basis }
-    requires solved { IsSolved (length tableau.now.basis) tableau.now.width (basis_of tableau.now) (form_of tableau.now) }
+    requires solved { IsSolved (length tableau.now.basis) tableau.now.width (basis_of tableau.now)
+        (form_of tableau.now) }
     ensures narrow { IfOk result IsNarrow }
-    ensures multiple { IfOk result (IsLeastCommonMultiple (basis_of tableau.now) (form_of tableau.now) rows) }
-    ensures err { IfErr result (λ at. (at.row < rows) × IsWideMultiple (basis_of tableau.now) (form_of tableau.now) at.row at.wide) }
+    ensures multiple { IfOk result (IsLeastCommonMultiple (basis_of tableau.now)
+        (form_of tableau.now) rows) }
+    ensures err { IfErr result (λ at. (at.row < rows)
+        × IsWideMultiple (basis_of tableau.now) (form_of tableau.now) at.row at.wide) }
 {
     let mut den = 1;
     for i in 0..rows {
@@ -49,17 +53,25 @@ pub(crate) fn fill(
     den: i128,
 ) -> Result<(), WideAt>
     requires rows { rows + 1 ≡ length tableau.now.basis }
-    requires solved { IsSolved (length tableau.now.basis) tableau.now.width (basis_of tableau.now) (form_of tableau.now) }
+    requires solved { IsSolved (length tableau.now.basis) tableau.now.width (basis_of tableau.now)
+        (form_of tableau.now) }
     requires from { from < tableau.now.width }
     requires narrow { IsNarrow den }
     requires narrow_places { All IsNarrow places.old }
-    requires multiple { IsLeastCommonMultiple (basis_of tableau.now) (form_of tableau.now) rows den }
+    requires multiple { IsLeastCommonMultiple (basis_of tableau.now)
+        (form_of tableau.now) rows den }
     requires places { (i : ℕ) → i < rows → basis_of tableau.now i < length places.old }
     ensures len { length places.new ≡ length places.old }
-    ensures on { OnOk result ((i : ℕ) → i < rows → IsNumerator (basis_of tableau.now) (form_of tableau.now) den (λ i. signed negated (form_of tableau.now i from)) i (numbers places.new (basis_of tableau.now i))) }
-    ensures off { OnOk result ((j : ℕ) → ((i : ℕ) → i < rows → j ≢ basis_of tableau.now i) → numbers places.new j ≡ numbers places.old j) }
+    ensures on { OnOk result ((i : ℕ) → i < rows
+        → IsNumerator (basis_of tableau.now) (form_of tableau.now) den
+        (λ i. signed negated (form_of tableau.now i from)) i
+        (numbers places.new (basis_of tableau.now i))) }
+    ensures off { OnOk result ((j : ℕ) → ((i : ℕ) → i < rows → j ≢ basis_of tableau.now i)
+        → numbers places.new j ≡ numbers places.old j) }
     ensures narrow { OnOk result (All IsNarrow places.new) }
-    ensures err { IfErr result (λ at. (at.row < rows) × IsWideNumerator (basis_of tableau.now) (form_of tableau.now) rows (λ i. signed negated (form_of tableau.now i from)) at.row at.wide) }
+    ensures err { IfErr result (λ at. (at.row < rows)
+        × IsWideNumerator (basis_of tableau.now) (form_of tableau.now) rows
+        (λ i. signed negated (form_of tableau.now i from)) at.row at.wide) }
 {
     for i in 0..rows {
         let part = quotient(den, tableau.number(i, tableau.own(i)));

@@ -38,9 +38,11 @@ fn multipliers(
     requires lp { IsLp lp.now }
     requires kept { IsTableau (program_of lp.now) tableau.now }
     requires row { row ≤ length lp.now.rows.items }
-    requires sign { (j : ℕ) → j < value_column (program_of lp.now) → pos 0 ≤ℤ signed negated (form_of tableau.now row j) }
+    requires sign { (j : ℕ) → j < value_column (program_of lp.now)
+        → pos 0 ≤ℤ signed negated (form_of tableau.now row j) }
     ensures listed { IfOk result (λ lists. AreListed lp.now lists.0.items lists.1.items) }
-    ensures of { IfOk result (λ lists. AreOf (program_of lp.now) (form_of tableau.now row) negated lists.0.items lists.1.items) }
+    ensures of { IfOk result (λ lists. AreOf (program_of lp.now)
+        (form_of tableau.now row) negated lists.0.items lists.1.items) }
     ensures ascends { IfOk result (λ lists. Ascends 0 (length lp.now.rows.items) lists.0.items) }
 {
     let mult = listed(
@@ -61,8 +63,10 @@ fn answer(alloc: Global, lp: &Lp, tableau: &Tableau, due: Due) -> Result<LpAnswe
     requires kept { IsTableau (program_of lp.now) tableau.now }
     requires end { IsEnd (program_of lp.now) (form_of tableau.now) due }
     ensures answer { IfOk result (IsAnswer lp.now) }
-    ensures basic { IfOk result (IsBasicAnswer (program_of lp.now) (basis_of tableau.now) (form_of tableau.now)) }
-    ensures halts { IfErr result (IsMiss (program_of lp.now) (basis_of tableau.now) (form_of tableau.now) (IsEndStep (program_of lp.now) (form_of tableau.now))) }
+    ensures basic { IfOk result (IsBasicAnswer (program_of lp.now) (basis_of tableau.now)
+        (form_of tableau.now)) }
+    ensures halts { IfErr result (IsMiss (program_of lp.now) (basis_of tableau.now)
+        (form_of tableau.now) (IsEndStep (program_of lp.now) (form_of tableau.now))) }
 {
     let value = lp.rows.len();
     match due {
@@ -106,9 +110,13 @@ fn turn(lp: &Lp, tableau: &mut Tableau, row: usize, column: usize) -> Result<(),
     requires column { column < value_column (program_of lp.now) }
     requires apart { form_of tableau.old row column ≢ pos 0 }
     ensures kept { OnOk result (IsTableau (program_of lp.now) tableau.new) }
-    ensures exchanges { OnOk result (Exchanges (basis_of tableau.old) row column (basis_of tableau.new)) }
+    ensures exchanges { OnOk result (Exchanges (basis_of tableau.old) row column
+        (basis_of tableau.new)) }
     ensures err { OnErr result (tableau.new.basis ≡ tableau.old.basis) }
-    ensures wide { IfErr result (λ place. (place.row ≤ length lp.now.rows.items) × (place.row ≢ row) × (place.column ≤ right_column (program_of lp.now)) × IsWidePivot (form_of tableau.old row) (form_of tableau.old place.row) column place.column place.wide) }
+    ensures wide { IfErr result (λ place. (place.row ≤ length lp.now.rows.items) × (place.row ≢ row)
+        × (place.column ≤ right_column (program_of lp.now))
+        × IsWidePivot (form_of tableau.old row)
+        (form_of tableau.old place.row) column place.column place.wide) }
 {
     tableau.pivot(row, column)
 }
@@ -127,11 +135,15 @@ fn counted_turn(
     requires column { column < value_column (program_of lp.now) }
     requires apart { form_of tableau.old row column ≢ pos 0 }
     ensures kept { OnOk result (IsTableau (program_of lp.now) tableau.new) }
-    ensures exchanges { OnOk result (Exchanges (basis_of tableau.old) row column (basis_of tableau.new)) }
+    ensures exchanges { OnOk result (Exchanges (basis_of tableau.old) row column
+        (basis_of tableau.new)) }
     ensures counts { OnOk result (Spends purse.old purse.new IsPivot) }
     ensures err { OnErr result (tableau.new.basis ≡ tableau.old.basis) }
     ensures none { OnErr result (purse.new ≡ purse.old) }
-    ensures wide { IfErr result (λ place. (place.row ≤ length lp.now.rows.items) × (place.row ≢ row) × (place.column ≤ right_column (program_of lp.now)) × IsWidePivot (form_of tableau.old row) (form_of tableau.old place.row) column place.column place.wide) }
+    ensures wide { IfErr result (λ place. (place.row ≤ length lp.now.rows.items) × (place.row ≢ row)
+        × (place.column ≤ right_column (program_of lp.now))
+        × IsWidePivot (form_of tableau.old row)
+        (form_of tableau.old place.row) column place.column place.wide) }
 {
     match turn(lp, tableau, row, column) {
         Ok(()) => {
@@ -143,8 +155,8 @@ fn counted_turn(
 }
 
 /// Pivots by the rules, in an order of the columns, until none is due: what ends the method. They
-/// are counted in binary too, with a digit for each column, as they are fewer than the ways to choose
-/// a basis.
+/// are counted in binary too, with a digit for each column, as they are fewer than the ways to
+/// choose a basis.
 fn run(
     alloc: Global,
     lp: &Lp,
@@ -155,13 +167,17 @@ fn run(
     requires lp { IsLp lp.now }
     requires kept { IsTableau (program_of lp.now) tableau.old }
     requires order { IsOrder (program_of lp.now) (order_of order.now) }
-    requires positive { AreDirectionsPositive (program_of lp.now) (order_of order.now) (basis_of tableau.old) (form_of tableau.old) }
+    requires positive { AreDirectionsPositive (program_of lp.now) (order_of order.now)
+        (basis_of tableau.old) (form_of tableau.old) }
     ensures kept { OnOk result (IsTableau (program_of lp.now) tableau.new) }
     ensures end { IfOk result (IsEnd (program_of lp.now) (form_of tableau.new)) }
-    ensures run { OnOk result (HasRun (program_of lp.now) (origin_of tableau.old order.now) purse.old purse.new (basis_of tableau.new) (form_of tableau.new)) }
+    ensures run { OnOk result (HasRun (program_of lp.now)
+        (origin_of tableau.old order.now) purse.old purse.new (basis_of tableau.new)
+        (form_of tableau.new)) }
     ensures count { length tableau.new.basis ≡ length lp.now.rows.items + 1 }
     ensures few { CountsFew (program_of lp.now) purse.old purse.new }
-    ensures miss { IfErr result (IsMissAfter (program_of lp.now) (origin_of tableau.old order.now) purse.old purse.new (basis_of tableau.new)) }
+    ensures miss { IfErr result (IsMissAfter (program_of lp.now)
+        (origin_of tableau.old order.now) purse.old purse.new (basis_of tableau.new)) }
 {
     let mut start = None;
     let mut count = match zero_digits(alloc, lp.columns as usize + lp.rows.len()) {
@@ -200,14 +216,18 @@ fn solve(
     requires lp { IsLp lp.now }
     requires kept { IsTableau (program_of lp.now) tableau.old }
     requires order { IsOrder (program_of lp.now) (order_of order.now) }
-    requires positive { AreDirectionsPositive (program_of lp.now) (order_of order.now) (basis_of tableau.old) (form_of tableau.old) }
+    requires positive { AreDirectionsPositive (program_of lp.now) (order_of order.now)
+        (basis_of tableau.old) (form_of tableau.old) }
     ensures answer { IfOk result (IsAnswer lp.now) }
     ensures kept { OnOk result (IsTableau (program_of lp.now) tableau.new) }
-    ensures basic { IfOk result (IsBasicAnswer (program_of lp.now) (basis_of tableau.new) (form_of tableau.new)) }
-    ensures reached { IfOk result (IsReachedAnswer (program_of lp.now) (IsFrom (program_of lp.now) (origin_of tableau.old order.now)) purse.old purse.new) }
+    ensures basic { IfOk result (IsBasicAnswer (program_of lp.now) (basis_of tableau.new)
+        (form_of tableau.new)) }
+    ensures reached { IfOk result (IsReachedAnswer (program_of lp.now)
+        (IsFrom (program_of lp.now) (origin_of tableau.old order.now)) purse.old purse.new) }
     ensures count { length tableau.new.basis ≡ length lp.now.rows.items + 1 }
     ensures few { CountsFew (program_of lp.now) purse.old purse.new }
-    ensures miss { IfErr result (IsMissAfter (program_of lp.now) (origin_of tableau.old order.now) purse.old purse.new (basis_of tableau.new)) }
+    ensures miss { IfErr result (IsMissAfter (program_of lp.now)
+        (origin_of tableau.old order.now) purse.old purse.new (basis_of tableau.new)) }
 {
     match run(alloc, lp, tableau, order, purse) {
         Ok(due) => answer(alloc, lp, tableau, due),
@@ -227,12 +247,16 @@ pub(crate) fn solve_from(
     requires lp { IsLp lp.now }
     requires kept { IsTableau (program_of lp.now) tableau }
     requires order { IsOrder (program_of lp.now) (order_of order.now) }
-    requires positive { AreDirectionsPositive (program_of lp.now) (order_of order.now) (basis_of tableau) (form_of tableau) }
+    requires positive { AreDirectionsPositive (program_of lp.now) (order_of order.now)
+        (basis_of tableau) (form_of tableau) }
     ensures kept { IfOk result (λ found. IsTableau (program_of lp.now) found.0) }
     ensures answer { IfOk result (λ found. IsAnswer lp.now found.1) }
-    ensures basic { IfOk result (λ found. IsBasicAnswer (program_of lp.now) (basis_of found.0) (form_of found.0) found.1) }
-    ensures reached { IfOk result (λ found. IsReachedAnswer (program_of lp.now) (IsFrom (program_of lp.now) (origin_of tableau order.now)) purse.old purse.new found.1) }
-    ensures cause { IfErr result (IsCause (program_of lp.now) (IsFrom (program_of lp.now) (origin_of tableau order.now)) purse.old purse.new) }
+    ensures basic { IfOk result (λ found. IsBasicAnswer (program_of lp.now) (basis_of found.0)
+        (form_of found.0) found.1) }
+    ensures reached { IfOk result (λ found. IsReachedAnswer (program_of lp.now)
+        (IsFrom (program_of lp.now) (origin_of tableau order.now)) purse.old purse.new found.1) }
+    ensures cause { IfErr result (IsCause (program_of lp.now)
+        (IsFrom (program_of lp.now) (origin_of tableau order.now)) purse.old purse.new) }
     ensures few { CountsFew (program_of lp.now) purse.old purse.new }
 {
     let mut tableau = tableau;
@@ -247,8 +271,8 @@ pub(crate) fn solve_from(
     }
 }
 
-/// The answer to which pivots by the rules lead from the basis of the slacks, and the tableau at the
-/// end.
+/// The answer to which pivots by the rules lead from the basis of the slacks, and the tableau at
+/// the end.
 pub(crate) fn solve_afresh(
     alloc: Global,
     lp: &Lp,
@@ -257,9 +281,12 @@ pub(crate) fn solve_afresh(
     requires { IsLp lp.now }
     ensures kept { IfOk result (λ found. IsTableau (program_of lp.now) found.0) }
     ensures answer { IfOk result (λ found. IsAnswer lp.now found.1) }
-    ensures basic { IfOk result (λ found. IsBasicAnswer (program_of lp.now) (basis_of found.0) (form_of found.0) found.1) }
-    ensures reached { IfOk result (λ found. IsReachedAnswer (program_of lp.now) (IsFromSlacks (program_of lp.now)) purse.old purse.new found.1) }
-    ensures cause { IfErr result (IsCause (program_of lp.now) (IsFromSlacks (program_of lp.now)) purse.old purse.new) }
+    ensures basic { IfOk result (λ found. IsBasicAnswer (program_of lp.now) (basis_of found.0)
+        (form_of found.0) found.1) }
+    ensures reached { IfOk result (λ found. IsReachedAnswer (program_of lp.now)
+        (IsFromSlacks (program_of lp.now)) purse.old purse.new found.1) }
+    ensures cause { IfErr result (IsCause (program_of lp.now)
+        (IsFromSlacks (program_of lp.now)) purse.old purse.new) }
     ensures few { CountsFew (program_of lp.now) purse.old purse.new }
 {
     let tableau = match start(alloc, lp) {
@@ -277,12 +304,12 @@ pub(crate) fn solve_afresh(
 /// rows, or that there is no least value.
 ///
 /// By the simplex method (G. Dantzig, 1947) on equations in whole numbers without common divisors,
-/// from the basis of the slacks. While a right side is below zero, pivots go by the dual method
-/// (C. Lemke, 1954) for the aim that the columns be least in their order; then by the primal one, in
-/// which the first column enters along which the value falls. In both the lexicographic order breaks
-/// ties (A. Charnes, 1952; G. Dantzig, A. Orden and P. Wolfe, 1955), so that no basis comes twice: the
-/// pivots are fewer than the ways to choose a column for each row. The purse counts each pivot when
-/// it has been made; no limit holds for them.
+/// from the basis of the slacks. While a right side is below zero, pivots go by the dual method (C.
+/// Lemke, 1954) for the aim that the columns be least in their order; then by the primal one, in
+/// which the first column enters along which the value falls. In both the lexicographic order
+/// breaks ties (A. Charnes, 1952; G. Dantzig, A. Orden and P. Wolfe, 1955), so that no basis comes
+/// twice: the pivots are fewer than the ways to choose a column for each row. The purse counts each
+/// pivot when it has been made; no limit holds for them.
 ///
 /// # Errors
 ///
@@ -291,8 +318,10 @@ pub(crate) fn solve_afresh(
 pub fn solve_lp(alloc: Global, lp: &Lp, purse: &mut Purse) -> Result<LpAnswer, Stop>
     requires { IsLp lp.now }
     ensures answer { IfOk result (IsAnswer lp.now) }
-    ensures basic { IfOk result (IsReachedAnswer (program_of lp.now) (IsFromSlacks (program_of lp.now)) purse.old purse.new) }
-    ensures cause { IfErr result (IsCause (program_of lp.now) (IsFromSlacks (program_of lp.now)) purse.old purse.new) }
+    ensures basic { IfOk result (IsReachedAnswer (program_of lp.now)
+        (IsFromSlacks (program_of lp.now)) purse.old purse.new) }
+    ensures cause { IfErr result (IsCause (program_of lp.now)
+        (IsFromSlacks (program_of lp.now)) purse.old purse.new) }
     ensures few { CountsFew (program_of lp.now) purse.old purse.new }
 {
     match solve_afresh(alloc, lp, purse) {

@@ -33,7 +33,8 @@ fn write_aim(places: &mut [i128], aim: &[i128])
     requires narrow { All IsNarrow aim.now }
     requires columns { length aim.now ≤ length places.old }
     ensures len { length places.new ≡ length places.old }
-    ensures numbers { (j : ℕ) → j < length aim.now → numbers places.new j ≡ neg_ℤ (numbers aim.now j) }
+    ensures numbers { (j : ℕ) → j < length aim.now
+        → numbers places.new j ≡ neg_ℤ (numbers aim.now j) }
     ensures zeros { (j : ℕ) → length aim.now ≤ j → numbers places.new j ≡ pos 0 }
     ensures narrow { All IsNarrow places.new }
 {
@@ -50,7 +51,8 @@ fn write_equation(places: &mut [i128], lp: &Lp, row: usize)
     requires zeros { All (λ z. z ≡ pos 0) places.old }
     ensures len { length places.new ≡ length places.old }
     ensures narrow { All IsNarrow places.new }
-    ensures first { IsFirst lp.now.columns ((program_of lp.now).coef row) ((program_of lp.now).le row) (numbers places.new) }
+    ensures first { IsFirst lp.now.columns ((program_of lp.now).coef row)
+        ((program_of lp.now).le row) (numbers places.new) }
 {
     let columns = lp.columns as usize;
     write_row(places, &lp.rows[row].coef, columns);
@@ -65,7 +67,8 @@ fn write_value(places: &mut [i128], lp: &Lp)
     requires zeros { All (λ z. z ≡ pos 0) places.old }
     ensures len { length places.new ≡ length places.old }
     ensures narrow { All IsNarrow places.new }
-    ensures first { IsFirst lp.now.columns (λ j. neg_ℤ (numbers lp.now.aim.items j)) (pos 0) (numbers places.new) }
+    ensures first { IsFirst lp.now.columns (λ j. neg_ℤ (numbers lp.now.aim.items j)) (pos 0)
+        (numbers places.new) }
 {
     write_aim(places, &lp.aim);
     places[lp.columns as usize + 1] = 1;
@@ -77,8 +80,12 @@ pub(crate) fn first_numbers(alloc: Global, lp: &Lp, width: usize) -> Result<Vec<
     requires width { width ≡ lp.now.columns + 2 }
     ensures len { IfOk result (λ all. length all.items ≡ (length lp.now.rows.items + 1) * width) }
     ensures narrow { IfOk result (λ all. All IsNarrow all.items) }
-    ensures rows { IfOk result (λ all. (r : ℕ) → r < length lp.now.rows.items → IsFirst lp.now.columns ((program_of lp.now).coef r) ((program_of lp.now).le r) (numbers (row_in width all.items r))) }
-    ensures value { IfOk result (λ all. IsFirst lp.now.columns (λ j. neg_ℤ (numbers lp.now.aim.items j)) (pos 0) (numbers (row_in width all.items (length lp.now.rows.items)))) }
+    ensures rows { IfOk result (λ all. (r : ℕ) → r < length lp.now.rows.items
+        → IsFirst lp.now.columns ((program_of lp.now).coef r) ((program_of lp.now).le r)
+        (numbers (row_in width all.items r))) }
+    ensures value { IfOk result (λ all. IsFirst lp.now.columns
+        (λ j. neg_ℤ (numbers lp.now.aim.items j)) (pos 0)
+        (numbers (row_in width all.items (length lp.now.rows.items)))) }
 {
     let rows = lp.rows.len();
     let mut all = vec![in alloc; 0; (rows + 1) * width]?;
@@ -94,7 +101,8 @@ pub(crate) fn first_numbers(alloc: Global, lp: &Lp, width: usize) -> Result<Vec<
 pub(crate) fn numbers_from(alloc: Global, first: u32, count: u32) -> Result<Vec<u32>, AllocError>
     requires { first + count ≤ 4294967296 }
     ensures len { IfOk result (λ made. length made.items ≡ count) }
-    ensures each { IfOk result (λ made. (i : ℕ) → i < count → slice_index made.items i ≡ first + i) }
+    ensures each { IfOk result (λ made. (i : ℕ) → i < count
+        → slice_index made.items i ≡ first + i) }
 {
     let mut made = Vec::new(alloc);
     for i in 0..count {
@@ -121,8 +129,10 @@ fn first_columns(alloc: Global, columns: u32, rows: u32) -> Result<Vec<Column>, 
     requires { columns + rows < 4294967295 }
     ensures len { IfOk result (λ made. length made.items ≡ columns + rows + 2) }
     ensures free { IfOk result (λ made. (k : ℕ) → k < columns → column_at made.items k ≡ IsFree k) }
-    ensures basic { IfOk result (λ made. (i : ℕ) → i ≤ rows → column_at made.items (columns + i) ≡ IsBasic i) }
-    ensures last { IfOk result (λ made. column_at made.items (columns + rows + 1) ≡ IsFree columns) }
+    ensures basic { IfOk result (λ made. (i : ℕ) → i ≤ rows
+        → column_at made.items (columns + i) ≡ IsBasic i) }
+    ensures last { IfOk result (λ made. column_at made.items
+        (columns + rows + 1) ≡ IsFree columns) }
 {
     let mut made = Vec::new(alloc);
     for place in 0..columns {
@@ -139,7 +149,8 @@ fn first_columns(alloc: Global, columns: u32, rows: u32) -> Result<Vec<Column>, 
 pub(crate) fn start(alloc: Global, lp: &Lp) -> Result<Tableau, AllocError>
     requires { IsLp lp.now }
     ensures kept { IfOk result (IsTableau (program_of lp.now)) }
-    ensures slacks { IfOk result (λ tableau. (i : ℕ) → i ≤ length lp.now.rows.items → basis_of tableau i ≡ lp.now.columns + i) }
+    ensures slacks { IfOk result (λ tableau. (i : ℕ) → i ≤ length lp.now.rows.items
+        → basis_of tableau i ≡ lp.now.columns + i) }
 {
     let columns = lp.columns;
     let rows = lp.rows.len() as u32;

@@ -32,9 +32,18 @@ impl Model for Tableau {
 
     ghost Value = { Equations };
 
-    ghost view = { λ t. record { basis = t.basis.items; free = t.free.items; columns = t.columns.items; width = length t.columns.items; numbers = t.numbers.items } };
+    ghost view = { λ t. record {
+      basis = t.basis.items;
+      free = t.free.items;
+      columns = t.columns.items;
+      width = length
+          t.columns.items;
+      numbers = t.numbers.items;
+    } };
 
-    ghost invariant = { λ t. (length t.numbers.items ≡ length t.basis.items * (length t.free.items + 1)) × All IsNarrow t.numbers.items × AreColumns t.basis.items t.free.items t.columns.items };
+    ghost invariant = { λ t. (length t.numbers.items ≡ length t.basis.items *
+        (length t.free.items + 1)) × All IsNarrow t.numbers.items
+        × AreColumns t.basis.items t.free.items t.columns.items };
 }
 
 impl Tableau {
@@ -83,7 +92,9 @@ impl Tableau {
     /// The equation whose column this is, if it is in the basis.
     pub(crate) fn row_of(&self, column: usize) -> Option<usize>
         requires { column < self.now.width }
-        ensures { MatchOption result ((i : ℕ) → i < length self.now.basis → basis_of self.now i ≢ column) (λ i. (i < length self.now.basis) × (basis_of self.now i ≡ column)) }
+        ensures { MatchOption result ((i : ℕ) → i < length self.now.basis
+            → basis_of self.now i ≢ column)
+            (λ i. (i < length self.now.basis) × (basis_of self.now i ≡ column)) }
     {
         match self.columns[column] {
             Column::Basic(row) => Some(row as usize),
@@ -131,18 +142,25 @@ impl Tableau {
     /// Puts a column into the basis in the place of the column of equation `row`. What is in the
     /// basis already stays.
     pub(crate) fn pivot(&mut self, row: usize, column: usize) -> Result<(), Place>
-        requires solved { IsSolved (length self.old.basis) self.old.width (basis_of self.old) (form_of self.old) }
+        requires solved { IsSolved (length self.old.basis) self.old.width (basis_of self.old)
+            (form_of self.old) }
         requires row { row < length self.old.basis }
         requires column { column < self.old.width }
         requires narrow { row < 4294967296 }
         requires apart { form_of self.old row column ≢ pos 0 }
         ensures width { self.new.width ≡ self.old.width }
-        ensures ok { OnOk result (IsPivot (length self.old.basis) self.old.width (basis_of self.old) (form_of self.old) row column (form_of self.new)) }
+        ensures ok { OnOk result (IsPivot (length self.old.basis) self.old.width (basis_of self.old)
+            (form_of self.old) row column (form_of self.new)) }
         ensures basis { OnOk result (self.new.basis ≡ slice_set self.old.basis row column) }
-        ensures free { OnOk result ((length self.new.free ≡ length self.old.free) × ((k : ℕ) → k < length self.old.free → free_of self.old k ≢ column → free_of self.new k ≡ free_of self.old k)) }
+        ensures free { OnOk result ((length self.new.free ≡ length self.old.free)
+            × ((k : ℕ) → k < length self.old.free → free_of self.old k ≢ column
+            → free_of self.new k ≡ free_of self.old k)) }
         ensures partition { IsPartition self.new.width self.new.basis self.new.free }
         ensures unchanged { OnErr result (self.new.basis ≡ self.old.basis) }
-        ensures err { IfErr result (λ place. (place.row < length self.old.basis) × (place.row ≢ row) × (place.column < self.old.width) × IsWidePivot (form_of self.old row) (form_of self.old place.row) column place.column place.wide) }
+        ensures err { IfErr result (λ place. (place.row < length self.old.basis) × (place.row ≢ row)
+            × (place.column < self.old.width)
+            × IsWidePivot (form_of self.old row)
+            (form_of self.old place.row) column place.column place.wide) }
     {
         let Column::Free(place) = self.columns[column] else {
             return Ok(());
@@ -174,8 +192,8 @@ impl Tableau {
     }
 
     /// The tableau with one equation more before the value's, which is the last one: its numbers at
-    /// this tableau's columns, and then that at its own, which is new, stands before the value's, and
-    /// comes into the basis.
+    /// this tableau's columns, and then that at its own, which is new, stands before the value's,
+    /// and comes into the basis.
     pub(crate) fn with_row(self, made: &[i128]) -> Result<Tableau, AllocError>
         requires value { (i : ℕ) → i + 1 ≡ length self.basis → basis_of self i + 2 ≡ self.width }
         requires right { (k : ℕ) → k + 1 ≡ length self.free → free_of self k + 1 ≡ self.width }
@@ -187,8 +205,11 @@ impl Tableau {
         requires len { length made.now ≡ self.width + 1 }
         requires narrow { All IsNarrow made.now }
         requires above { pos 0 <ℤ numbers made.now self.width }
-        requires cleared { (i : ℕ) → i < length self.basis → numbers made.now (basis_of self i) ≡ pos 0 }
-        ensures { IfOk result (λ t. (m n v : ℕ) → length self.basis ≡ m + 1 → length self.free ≡ n + 1 → self.width ≡ v + 2 → IsWithRow m n v self t (numbers made.now)) }
+        requires cleared { (i : ℕ) → i < length self.basis
+            → numbers made.now (basis_of self i) ≡ pos 0 }
+        ensures { IfOk result (λ t. (m n v : ℕ) → length self.basis ≡ m + 1
+            → length self.free ≡ n + 1 → self.width ≡ v + 2
+            → IsWithRow m n v self t (numbers made.now)) }
     {
         let Tableau {
             mut basis,
