@@ -1,0 +1,3 @@
+pub mod PartSums
+pub mod PartValues
+pub mod PresentRows
