@@ -1,5 +1,5 @@
 -- From the answer to a value to the answer to its bytes.
-use Rattle.std.proofs.Common.{◌≡◌, ℕ, List, Result, Ok, Err, inr}
+use Rattle.std.proofs.Common.{ℕ, List, Result, Ok, Err, inr}
 use Rattle.std.specs.Prelude.{IfOk, IfErr}
 use Rattle.serde_json.specs.Data.{Data}
 use Rattle.zr_source.specs.declared.source.Source.{Source}

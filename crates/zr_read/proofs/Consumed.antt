@@ -1,5 +1,5 @@
 -- A walk that takes the items of a list away.
-use Rattle.std.proofs.Common.{◌≡◌, ℕ, ◌+◌, List, [], ◌∷◌, map, refl, ◌∙◌, decimal}
+use Rattle.std.proofs.Common.{◌≡◌, ℕ, ◌+◌, List, ◌∷◌, map, refl, ◌∙◌, decimal}
 use Rattle.std.specs.Prelude.{Result, Ok, Err}
 use Rattle.zr_value.specs.declared.fault.GameError.{GameError}
 use Rattle.zr_value.specs.Faults.{Read, Reads, Says, Placed, under}

@@ -1,10 +1,9 @@
 -- The cross terms and the terms in the others' variables that are read stand in their order, and
 -- each names what exists.
-use Rattle.std.proofs.Common.{◌≡◌, ◌≢◌, ℕ, ◌+◌, ◌<◌, ◌≤◌, ℤ, List, [], ◌∷◌, ◌++◌, length, filter, map, refl, sym, subst, ◌∙◌, Ok, Some, None, Bool, true, false, cond, arith, length-append, decimal, Ordering}
-use Rattle.std.specs.Prelude.{◌==◌, nat_lt, neg_ℤ}
+use Rattle.std.proofs.Common.{◌≡◌, ◌≢◌, ℕ, ◌+◌, ◌<◌, ◌≤◌, ℤ, List, [], ◌∷◌, ◌++◌, length, filter, map, refl, sym, subst, Ok, Bool, true, false, cond, arith, length-append, decimal, Ordering}
+use Rattle.std.specs.Prelude.{◌==◌, nat_lt}
 use Rattle.std.specs.List.{All, AllPairs, sum_by}
 use Rattle.std.specs.Option.{ForSome}
-use Rattle.std.specs.Ordering.{nat_cmp}
 use Rattle.std.specs.declared.cmp.Ordering.TheVariants.{Less}
 use Rattle.std.specs.Cmp.{IsTotalOrder}
 use Rattle.std.proofs.lemmas.Bool.Decides.{nat_tests}

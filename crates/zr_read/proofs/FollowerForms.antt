@@ -1,21 +1,20 @@
 -- The followers that are read keep the rules.
-use Rattle.std.proofs.Common.{◌≡◌, ℕ, zero, suc, ◌+◌, ◌-◌, ◌<◌, ◌≤◌, ℤ, pos, List, [], ◌∷◌, ◌++◌, length, filter, map, refl, sym, ap, subst, ◌∙◌, Ok, Option, Some, None, Bool, true, false, cond, codes, arith, decimal}
+use Rattle.std.proofs.Common.{◌≡◌, ℕ, zero, suc, ◌+◌, ◌-◌, ◌<◌, ◌≤◌, ℤ, pos, List, [], ◌∷◌, ◌++◌, length, filter, map, refl, sym, ap, subst, ◌∙◌, Ok, Some, None, Bool, true, false, cond, codes, arith, decimal}
 use Rattle.std.specs.Prelude.{◌&&◌, nat_le, nat_lt, slice_get}
 use Rattle.std.specs.List.{All, AllPairs}
 use Rattle.std.specs.declared.cmp.Ordering.TheVariants.{Less}
 use Rattle.std.proofs.lemmas.Bool.Decides.{nat_tests}
 use Rattle.std.proofs.lemmas.Int.{ints}
 use Rattle.std.proofs.lemmas.List.{length-map}
-use Rattle.std.proofs.lemmas.List.Elements.{All-nil, All-push}
+use Rattle.std.proofs.lemmas.List.Elements.{All-nil}
 use Rattle.std.specs.BTreeMap.{insert_entry}
 use mathlib.Core.List.{append_assoc}
 use Rattle.serde_json.specs.Data.{Data}
 use Rattle.zr_base.specs.Terms.{Terms}
-use Rattle.zr_base.specs.Rows.{RowOf}
 use Rattle.zr_game.specs.Players.{Name, VarOf}
 use Rattle.zr_game.specs.Forms.{AreTerms, IsNumber, IsCoefficient, IsRowForm, IsVarForm, place_order}
-use Rattle.zr_source.specs.Sources.{FollowerOf, IsOwn}
-use Rattle.zr_source.specs.SourceForms.{IsFollowerCross, IsFollowerForm, follower_cross_order}
+use Rattle.zr_source.specs.Sources.{FollowerOf}
+use Rattle.zr_source.specs.SourceForms.{follower_cross_order}
 use Rattle.zr_source.specs.Names.{var_name}
 use Rattle.zr_value.specs.declared.fault.GameFault.{GameFault}
 use Rattle.zr_value.specs.declared.fault.GameFault.TheVariants.{UnknownName, OwnCross, Twice, Count}
@@ -33,7 +32,7 @@ use Rattle.zr_read.specs.Formats.{aim_of_in, aimed, cost_number_in}
 use Rattle.zr_read.specs.Rows.{rows_in}
 use Rattle.zr_read.specs.Costs.{Place}
 use Rattle.zr_read.specs.Followers.{FollowerHeadingOf, MembersOf, free_variable, add_free, free_in, add_follower_heading, alone, follower_headings_in, is_own, own_variable_in, given_variable_in, add_follower_cross, follower_cross_of, follower_cross_in, follower_in, add_follower, followers_in}
-use Rattle.zr_read.proofs.Naming.{IsNewName, new_name_ok, length-push}
+use Rattle.zr_read.proofs.Naming.{new_name_ok, length-push}
 use Rattle.zr_read.proofs.OwnVars.{AreVariables, variables_push}
 use Rattle.zr_read.proofs.RowForms.{rows_ok}
 use Rattle.zr_read.proofs.CostForms.{place_order_total, made_ascend, made_all, sum_ones, cost_number_ok, ok_same}

@@ -1,7 +1,6 @@
 -- The rows and pairs that are read keep the rules.
-use Rattle.std.proofs.Common.{◌≡◌, ℕ, ◌+◌, ◌≤◌, ℤ, pos, List, [], ◌∷◌, ◌++◌, length, map, subst, refl, sym, Ok, Option, Some, None, Bool, true, false, cond, codes, arith, length-append}
+use Rattle.std.proofs.Common.{◌≡◌, ℕ, ◌+◌, ◌≤◌, ℤ, pos, List, [], ◌∷◌, ◌++◌, length, subst, refl, sym, Ok, Option, Some, None, Bool, true, false, cond, codes, arith, length-append}
 use Rattle.std.specs.Prelude.{◌||◌, ◌<◌, neg_ℤ, is_some, nat_le, slice_get}
-use Rattle.std.specs.Ordering.{int_eq}
 use Rattle.std.specs.List.{All, sum_by}
 use Rattle.std.specs.Option.{ForSome}
 use Rattle.std.proofs.lemmas.Bool.Decides.{Decides-int_eq}
@@ -17,7 +16,7 @@ use Rattle.zr_value.specs.Faults.{Read, fault, under}
 use Rattle.zr_value.specs.Values.{number_in, object_in, items_in, needed, optional, there_or, listed, each}
 use Rattle.zr_value.specs.Names.{known_in}
 use Rattle.zr_value.specs.Terms.{terms_in, opposite}
-use Rattle.zr_value.proofs.Behind.{bind_ok, guard_ok, only_ok, under_ok, needed_ok, optional_keeps, each_keeps, each_counts, each_grows, listed_ok, le_from_test}
+use Rattle.zr_value.proofs.Behind.{bind_ok, guard_ok, only_ok, needed_ok, optional_keeps, each_keeps, each_counts, each_grows, listed_ok, le_from_test}
 use Rattle.zr_value.proofs.Keys.{number_opposite}
 use Rattle.zr_value.proofs.TermLaws.{whole_ok, known_below, terms_are_right, opposite_ascends}
 use Rattle.zr_read.specs.declared.format.GameFormat.{GameFormat}

@@ -1,20 +1,17 @@
 -- The source that is read keeps the rules.
 use Rattle.std.proofs.Common.{◌≡◌, ℕ, zero, suc, ◌+◌, ◌<◌, ◌≤◌, ℤ, List, [], ◌∷◌, ◌++◌, length, map, get_or, refl, sym, ap, subst, ◌∙◌, Ok, Some, Bool, true, false, codes, arith, decimal}
 use Rattle.std.specs.Prelude.{◌||◌, bytes_eq, slice_get}
-use Rattle.std.specs.List.{All, AllPairs}
-use Rattle.std.specs.Option.{ForSome}
+use Rattle.std.specs.List.{All}
 use Rattle.std.proofs.lemmas.List.{map-append, get_or-map, length-map}
 use Rattle.std.proofs.lemmas.List.Elements.{All-nil, All-cons, All-push}
-use Rattle.std.proofs.lemmas.Option.{get_or_from_slice_get, slice_get_within, slice_get-get_or}
+use Rattle.std.proofs.lemmas.Option.{get_or_from_slice_get, slice_get_within}
 use mathlib.Core.List.{append_assoc}
 use Rattle.serde_json.specs.Data.{Data}
-use Rattle.zr_base.specs.Rows.{RowOf}
-use Rattle.zr_base.specs.Terms.{Terms}
 use Rattle.zr_game.specs.declared.player.CrossTerm.{CrossTerm}
 use Rattle.zr_game.specs.declared.player.Other.{Other}
-use Rattle.zr_game.specs.Players.{Name, VarOf, PairOf, PlayerOf}
-use Rattle.zr_game.specs.Forms.{AreTerms, IsCoefficient, IsRowForm, IsPairForm, IsFromZero, IsCrossForm, IsOtherForm, IsOthersVar, IsPlayerForm, IsGame, IsPlayer, IsVarForm}
-use Rattle.zr_source.specs.Sources.{FollowerOf, LeaderOf, SourceOf, bases, IsOwn}
+use Rattle.zr_game.specs.Players.{Name, VarOf, PlayerOf}
+use Rattle.zr_game.specs.Forms.{AreTerms, IsCoefficient, IsRowForm, IsPairForm, IsFromZero, IsCrossForm, IsOtherForm, IsOthersVar, IsPlayerForm, IsVarForm}
+use Rattle.zr_source.specs.Sources.{FollowerOf, LeaderOf, SourceOf, bases}
 use Rattle.zr_source.specs.SourceForms.{AreFree, IsFollowerCross, IsFollowerForm, StandInOrder, first_of, IsLeaderForm, IsSource}
 use Rattle.zr_source.specs.Names.{AreNames, leader_name, var_name}
 use Rattle.zr_value.specs.Faults.{under}
@@ -28,10 +25,10 @@ use Rattle.zr_read.specs.Formats.{aim_of_in, format_in, aimed}
 use Rattle.zr_read.specs.Variables.{variables_in}
 use Rattle.zr_read.specs.Rows.{rows_in, pairs_in}
 use Rattle.zr_read.specs.Costs.{CostsOf, Place, costs_in, cross_in, others_in}
-use Rattle.zr_read.specs.Followers.{FollowerHeadingOf, MembersOf, alone, follower_headings_in, followers_in}
+use Rattle.zr_read.specs.Followers.{FollowerHeadingOf, alone, follower_headings_in, followers_in}
 use Rattle.zr_read.specs.Passes.{HeadingOf, heading_name, variable_names, heading_in, add_heading, player_of_parts, player_in, leader_in, add_leader, leaders_in, players_in, players_of_in, source_in}
 use Rattle.zr_read.proofs.Naming.{IsNewName, new_name_ok, no_names, names_push, length-push}
-use Rattle.zr_read.proofs.OwnVars.{AreVariables, variables_ok}
+use Rattle.zr_read.proofs.OwnVars.{variables_ok}
 use Rattle.zr_read.proofs.RowForms.{IsPair, rows_ok, pairs_ok}
 use Rattle.zr_read.proofs.CostForms.{IsKey, IsOtherPlace, IsOtherTerm, AreCross, AreOthers, no_cross, no_other_terms, cross_ok, others_ok, ok_same}
 use Rattle.zr_read.proofs.FollowerForms.{AreMembers, AreFew, StandFrom, AreFollowers, IsFollower, IsCrossKey, IsFree, free_at, alone_ok, members_ok, aimed_ok, followers_ok}

@@ -3,8 +3,8 @@
 use Rattle.std.specs.Prelude.{ℕ, List, [], ◌∷◌, ◌++◌, map, length, Ok, codes}
 use Rattle.serde_json.specs.Data.{Data}
 use Rattle.zr_base.specs.Rows.{RowOf}
-use Rattle.zr_game.specs.Players.{Name, VarOf, PairOf, PlayerOf}
-use Rattle.zr_source.specs.Sources.{FollowerOf, LeaderOf, SourceOf}
+use Rattle.zr_game.specs.Players.{Name, PairOf, PlayerOf}
+use Rattle.zr_source.specs.Sources.{LeaderOf, SourceOf}
 use Rattle.zr_source.specs.Names.{var_name}
 use Rattle.zr_value.specs.Faults.{Read, under, ◌>>=◌}
 use Rattle.zr_value.specs.Values.{object_in, needed, optional, listed, each}
@@ -15,7 +15,7 @@ use Rattle.zr_read.specs.Formats.{aim_of_in, format_in}
 use Rattle.zr_read.specs.Variables.{variables_in}
 use Rattle.zr_read.specs.Rows.{rows_in, pairs_in}
 use Rattle.zr_read.specs.Costs.{CostsOf, costs_in}
-use Rattle.zr_read.specs.Followers.{FollowerHeadingOf, MembersOf, alone, follower_headings_in, followers_in}
+use Rattle.zr_read.specs.Followers.{MembersOf, alone, follower_headings_in, followers_in}
 
 -- ---- the first pass
 

@@ -18,3 +18,6 @@ pub use format::{Aim, GameFormat};
 pub use game::{read_game, read_players};
 pub use laws::law_of_texts;
 pub use zr_value::{GameError, GameFault};
+
+#[cfg(test)]
+mod tests;

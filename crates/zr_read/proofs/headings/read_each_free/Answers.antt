@@ -1,4 +1,4 @@
-use Rattle.std.proofs.Common.{refl, rules, arith, map}
+use Rattle.std.proofs.Common.{refl, arith, map}
 use Rattle.serde_json.specs.View.{view}
 use Rattle.zr_game.specs.Players.{var_of}
 use Rattle.zr_value.proofs.Places.{on_placed}

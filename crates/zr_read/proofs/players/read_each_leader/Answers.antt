@@ -1,4 +1,4 @@
-use Rattle.std.proofs.Common.{rules, ◌≡◌, ◌+◌, ◌∷◌, [], ◌∙◌, length, map, ap, sym, refl, arith}
+use Rattle.std.proofs.Common.{rules, [], ◌∙◌, length, map, ap, sym, arith}
 use Rattle.std.proofs.lemmas.List.{nil_from_length}
 use Rattle.zr_source.specs.Sources.{leader_of}
 use Rattle.zr_value.specs.Values.{each}
