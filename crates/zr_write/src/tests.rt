@@ -4,7 +4,7 @@ use std::test::Fail;
 use zr_game::Player;
 
 /// One player of one binary variable, which it wants as great as can be.
-fn one_binary(alloc: Global) -> Result<Source, Fail> {
+fn one_binary(alloc: Global) -> Result<Vec<Leader>, Fail> {
     let base = Player {
         name: String::from_str(alloc, "A")?,
         vars: vec![in alloc;
@@ -25,10 +25,7 @@ fn one_binary(alloc: Global) -> Result<Source, Fail> {
         base,
         followers: Vec::new(alloc),
     };
-    match Source::new(vec![in alloc; leader]?) {
-        Ok(source) => Ok(source),
-        Err(_) => Err(Fail),
-    }
+    Ok(vec![in alloc; leader]?)
 }
 
 const SECOND: &str =
@@ -41,7 +38,9 @@ const FIRST: &str =
 #[test]
 fn texts_of_one_binary(rt: HostRuntime) -> Result<(), Fail> {
     let alloc = rt.alloc();
-    let source = one_binary(alloc)?;
+    let Ok(source) = Source::new(one_binary(alloc)?) else {
+        return Err(Fail::from("no source"));
+    };
     let second = migrate_game(alloc, &source)?;
     assert!(rt; second.as_slice() == SECOND.as_bytes());
     let first = write_game(alloc, &source)?;
