@@ -1,6 +1,9 @@
-pub mod WordLemmas
+pub mod OneSaying
+pub mod CommandLemmas
 pub mod TextLemmas
 pub mod WritingLemmas
 pub mod LineLemmas
 mod CauseLemmas
+mod TruthLemmas
+mod GameLemmas
 mod ToldLemmas

@@ -1,13 +1,14 @@
 -- What goes with the status of a refusal.
 use Rattle.std.proofs.Common.{◌≡◌, ℕ, string_bytes, inl, inr, ◌⊎◌, arith}
 use Rattle.zr_io.specs.Contents.{Bytes, Contents}
-use Rattle.zr_read.specs.declared.fault.GameFault.{GameFault}
+use Rattle.zr_value.specs.declared.fault.GameFault.{GameFault}
 use Rattle.zero.specs.declared.refusal.CertFlaw.{CertFlaw}
 use Rattle.zero.specs.declared.refusal.Refusal.{Refusal}
 use Rattle.zero.specs.declared.refusal.Refusal.TheVariants.{Usage, CannotRead, TooLong, Faulty, Flawed, NoMemory, WriteFault, Unbuilt, UnbuiltGame}
 use Rattle.zero.specs.declared.text.Text.{Text}
 use Rattle.zero.specs.declared.text.Text.TheVariants.{Game, Cert}
-use Rattle.zero.specs.Commands.{Words, IsUnbuiltCommand}
+use Rattle.zr_words.specs.Words.{Words}
+use Rattle.zero.specs.Commands.{IsUnbuiltCommand}
 use Rattle.zero.specs.Reads.{IsDue, IsLastTake, IsLong}
 use Rattle.zero.specs.Answers.{IsFaultyGame, IsRefusedCert, IsUnbuiltGame}
 use Rattle.zero.specs.Refusals.{HasTaken, IsCause, status_of}
@@ -16,7 +17,7 @@ module _ (words : Words) (contents : Contents) (before after : ℕ) where
   -- a text that can't be read is due, and the last that was taken
   pub unread_of : (refusal : Refusal) → IsCause words contents refusal → HasTaken before after refusal → status_of refusal ≡ 3
       → (text : Text) × (name : Bytes) × IsDue words contents text name × IsLastTake text before after
-  unread_of Usage h t e = absurd (omega (arith, e))
+  unread_of (Usage help) h t e = absurd (omega (arith, e))
   unread_of (CannotRead text name) h t e = (text, name.now, h, t)
   unread_of (TooLong text name) h t e = absurd (omega (arith, e))
   unread_of (Faulty fault path) h t e = absurd (omega (arith, e))
@@ -29,7 +30,7 @@ module _ (words : Words) (contents : Contents) (before after : ℕ) where
   -- so is one that is too long
   pub long_of : (refusal : Refusal) → IsCause words contents refusal → HasTaken before after refusal → status_of refusal ≡ 4
       → (text : Text) × (name : Bytes) × IsLong words contents text name × IsLastTake text before after
-  long_of Usage h t e = absurd (omega (arith, e))
+  long_of (Usage help) h t e = absurd (omega (arith, e))
   long_of (CannotRead text name) h t e = absurd (omega (arith, e))
   long_of (TooLong text name) h t e = (text, name.now, h, t)
   long_of (Faulty fault path) h t e = absurd (omega (arith, e))
@@ -42,7 +43,7 @@ module _ (words : Words) (contents : Contents) (before after : ℕ) where
   -- a fault is that of the game
   pub fault_of : (refusal : Refusal) → IsCause words contents refusal → HasTaken before after refusal → status_of refusal ≡ 5
       → (fault : GameFault) × (path : Bytes) × IsFaultyGame words contents fault path × IsLastTake Game before after
-  fault_of Usage h t e = absurd (omega (arith, e))
+  fault_of (Usage help) h t e = absurd (omega (arith, e))
   fault_of (CannotRead text name) h t e = absurd (omega (arith, e))
   fault_of (TooLong text name) h t e = absurd (omega (arith, e))
   fault_of (Faulty fault path) h t e = (fault, string_bytes path, h, t)
@@ -55,7 +56,7 @@ module _ (words : Words) (contents : Contents) (before after : ℕ) where
   -- a refused line is one of the certificate
   pub flaw_of : (refusal : Refusal) → IsCause words contents refusal → HasTaken before after refusal → status_of refusal ≡ 6
       → (number : ℕ) × (flaw : CertFlaw) × IsRefusedCert words contents number flaw × IsLastTake Cert before after
-  flaw_of Usage h t e = absurd (omega (arith, e))
+  flaw_of (Usage help) h t e = absurd (omega (arith, e))
   flaw_of (CannotRead text name) h t e = absurd (omega (arith, e))
   flaw_of (TooLong text name) h t e = absurd (omega (arith, e))
   flaw_of (Faulty fault path) h t e = absurd (omega (arith, e))
@@ -68,7 +69,7 @@ module _ (words : Words) (contents : Contents) (before after : ℕ) where
   -- what isn't built is asked for by the words, or in the game
   pub unbuilt_of : (refusal : Refusal) → IsCause words contents refusal → HasTaken before after refusal → status_of refusal ≡ 16
       → IsUnbuiltCommand words ⊎ (IsUnbuiltGame words contents × IsLastTake Game before after)
-  unbuilt_of Usage h t e = absurd (omega (arith, e))
+  unbuilt_of (Usage help) h t e = absurd (omega (arith, e))
   unbuilt_of (CannotRead text name) h t e = absurd (omega (arith, e))
   unbuilt_of (TooLong text name) h t e = absurd (omega (arith, e))
   unbuilt_of (Faulty fault path) h t e = absurd (omega (arith, e))

@@ -2,24 +2,30 @@
 use Rattle.std.specs.Prelude.{◌≡◌, ℕ, List, ◌++◌, length, Option, codes, ◌⊎◌}
 use Rattle.zr_base.specs.Points.{PointOf}
 use Rattle.zr_game.specs.Players.{GameOf}
-use Rattle.zr_game.specs.Equilibria.{HasNoEquilibrium}
+use Rattle.zr_game.specs.Profiles.{IsOfKind}
 use Rattle.zr_game.specs.declared.kind.Kind.{Kind}
 use Rattle.zr_game.specs.declared.kind.Kind.TheVariants.{Pure, Mixed}
 use Rattle.zr_io.specs.Contents.{Bytes, Contents}
 use Rattle.zr_io.specs.Written.{AppendsPrefix}
-use Rattle.zr_read.specs.declared.fault.GameFault.{GameFault}
-use Rattle.zr_read.specs.Texts.{StandsFor, HasFirstFault, IsUnbuilt}
+use Rattle.zr_source.specs.Sources.{SourceOf}
+use Rattle.zr_source.specs.SourceEquilibria.{HasNoSourceEquilibrium, IsSourceEquilibrium}
+use Rattle.zr_follow.specs.Expansion.{expansion}
+use Rattle.zr_follow.specs.BaseParts.{base_profile}
+use Rattle.zr_value.specs.declared.fault.GameFault.{GameFault}
+use Rattle.zr_read.specs.Texts.{StandsFor}
+use Rattle.zr_write.specs.Texts.{migrated_text}
 use Rattle.zr_trial.specs.Reach.{IsWithinReach}
 use Rattle.zr_trial.specs.First.{IsFirstEquilibrium, pure_profile}
 use Rattle.zr_cert.specs.declared.fault.CertFault.TheVariants as checks
-use Rattle.zr_cert.specs.Certs.{CertOf, EmptyVerdict, ProfileVerdict, VerdictOf}
+use Rattle.zr_cert.specs.Certs.{CertOf, EmptyVerdict, ProfileVerdict, VerdictOf, profile_with}
 use Rattle.zr_check.specs.Right.{IsRightCert}
 use Rattle.zr_check.specs.Checks.{CertRefused}
-use Rattle.zr_check.specs.Truth.{IsTrueVerdict}
 use Rattle.zr_check.specs.WideSteps.{HasWideStep}
 use Rattle.zr_text.specs.declared.fault.TextError.TheVariants as texts
 use Rattle.zr_text.specs.Faults.{IsText, IsTextFault}
-use Rattle.zero.specs.Commands.{Words, IsGameName, IsSolvePure}
+use Rattle.zr_words.specs.Words.{Words}
+use Rattle.zero.specs.Commands.{IsGameName, IsMigrate, IsSolve}
+use Rattle.zero.specs.Games.{HasGameFault, IsGameText}
 use Rattle.zero.specs.Reads.{IsDueCert, IsRead, cert_limit, game_limit}
 use Rattle.zero.specs.ShortText.{line, none_text, profile_text}
 use Rattle.zero.specs.declared.refusal.CertFlaw.{CertFlaw}
@@ -27,24 +33,30 @@ use Rattle.zero.specs.declared.refusal.CertFlaw.TheVariants.{Form, Number, Wrong
 
 -- ---- solve
 
--- the text of the game's first pure equilibrium, or that it has none
-abbrev pub IsShortAnswer : GameOf → Bytes → Type 0
-IsShortAnswer game text =
-    ((points : List PointOf) × IsFirstEquilibrium game points × (text ≡ profile_text (pure_profile points)))
-    ⊎ (HasNoEquilibrium game Pure × (text ≡ none_text (length game)))
+-- the points are the first pure equilibrium, in the order of trial, and one of the game as it was
+-- read, in which followers answer optimally
+pub record IsFound (source : SourceOf) (points : List PointOf) : Type 0 where
+  pub first : IsFirstEquilibrium (expansion source) points
+  pub equilibrium : IsSourceEquilibrium source (base_profile source (pure_profile points))
+
+-- the text of the first pure equilibrium, or that there is none
+abbrev pub IsShortAnswer : SourceOf → Bytes → Type 0
+IsShortAnswer source text =
+    ((points : List PointOf) × IsFound source points × (text ≡ profile_text (pure_profile points)))
+    ⊎ (HasNoSourceEquilibrium source Pure × (text ≡ none_text (length source)))
 
 -- the bytes stand for a game within reach, and the text answers it
 pub record IsAnswered (bytes text : Bytes) : Type 0 where
-  pub game : GameOf
-  pub stands : StandsFor bytes game
-  pub reach : IsWithinReach game
-  pub answer : IsShortAnswer game text
+  pub source : SourceOf
+  pub game : IsGameText bytes source
+  pub reach : IsWithinReach (expansion source)
+  pub answer : IsShortAnswer source text
 
 -- the words ask for a pure equilibrium of the game that was read
 pub record IsSolved (words : Words) (contents : Contents) (text : Bytes) : Type 0 where
   pub name : Bytes
   pub bytes : Bytes
-  pub solve : IsSolvePure words name
+  pub solve : IsSolve words Pure name
   pub read : IsRead contents game_limit name bytes
   pub answered : IsAnswered bytes text
 
@@ -61,36 +73,66 @@ verdict_name (EmptyVerdict i nodes) = codes "none"
 abbrev pub accepted_text : CertOf → Bytes
 accepted_text c = line (codes "accepted " ++ kind_name c.kind ++ codes " " ++ verdict_name c.verdict)
 
--- the bytes are the text of this certificate, which is right for the game, and no step of its check is too wide
+-- the bytes are the text of this certificate, which is right for the game, and no step of its check
+-- is too wide
 pub record IsRightText (game : GameOf) (bytes : Bytes) (cert : CertOf) : Type 0 where
   pub is_text : IsText cert bytes
   pub right : IsRightCert game cert
   pub narrow : HasWideStep game cert → ⊥
 
--- the bytes are of such a certificate, its verdict is true, and the text says so
-pub record IsAccepted (game : GameOf) (bytes text : Bytes) : Type 0 where
+-- the profile, without its multipliers, is an equilibrium of the kind, in which followers answer
+-- optimally, or no profile of the kind is one
+abbrev pub IsTrueOf : SourceOf → Kind → VerdictOf → Type 0
+IsTrueOf source kind (ProfileVerdict mixtures bounds) =
+    IsOfKind kind (base_profile source (profile_with mixtures))
+    × IsSourceEquilibrium source (base_profile source (profile_with mixtures))
+IsTrueOf source kind (EmptyVerdict i nodes) = HasNoSourceEquilibrium source kind
+
+-- the bytes are of a certificate that is right for the game with its followers' conditions, its
+-- verdict is true of the game as it was read, and the text says so
+pub record IsAccepted (source : SourceOf) (bytes text : Bytes) : Type 0 where
   pub cert : CertOf
-  pub shown : IsRightText game bytes cert
-  pub truth : IsTrueVerdict game cert.kind cert.verdict
+  pub shown : IsRightText (expansion source) bytes cert
+  pub truth : IsTrueOf source cert.kind cert.verdict
   pub answer : text ≡ accepted_text cert
 
--- the words ask for a check, the game text that was read stands for the game, and these bytes of a certificate were read
-pub record IsAskedCheck (words : Words) (contents : Contents) (game : GameOf) (bytes : Bytes) : Type 0 where
+-- the words ask for a check, the game text that was read stands for the game, and these bytes of a
+-- certificate were read
+pub record IsAskedCheck (words : Words) (contents : Contents) (source : SourceOf) (bytes : Bytes)
+    : Type 0 where
   pub name : Bytes
-  pub due : IsDueCert words contents game name
+  pub due : IsDueCert words contents source name
   pub read : IsRead contents cert_limit name bytes
 
 pub record IsChecked (words : Words) (contents : Contents) (text : Bytes) : Type 0 where
-  pub game : GameOf
+  pub source : SourceOf
   pub bytes : Bytes
-  pub asked : IsAskedCheck words contents game bytes
-  pub accepted : IsAccepted game bytes text
+  pub asked : IsAskedCheck words contents source bytes
+  pub accepted : IsAccepted source bytes text
+
+-- ---- migrate
+
+-- the text is the canonical one of the game for which the bytes stand, and stands for it
+pub record IsSameGame (bytes text : Bytes) : Type 0 where
+  pub source : SourceOf
+  pub game : IsGameText bytes source
+  pub canonical : text ≡ migrated_text source
+  pub stands : StandsFor text source
+
+-- the words ask for the text in today's form of the game that was read
+pub record IsMigrated (words : Words) (contents : Contents) (text : Bytes) : Type 0 where
+  pub name : Bytes
+  pub bytes : Bytes
+  pub migrate : IsMigrate words name
+  pub read : IsRead contents game_limit name bytes
+  pub same : IsSameGame bytes text
 
 -- ---- answers and refusals
 
 -- a true answer to the words
 abbrev pub IsAnswer : Words → Contents → Bytes → Type 0
-IsAnswer words contents text = IsSolved words contents text ⊎ IsChecked words contents text
+IsAnswer words contents text =
+    IsSolved words contents text ⊎ IsChecked words contents text ⊎ IsMigrated words contents text
 
 -- a prefix of a true answer went to the end of what was written before
 pub record HasBegun (words : Words) (contents : Contents) (before after : Option Bytes) : Type 0 where
@@ -99,30 +141,26 @@ pub record HasBegun (words : Words) (contents : Contents) (before after : Option
   pub written : AppendsPrefix before text after
 
 -- the game text that was read has this first fault
-pub record IsFaultyGame (words : Words) (contents : Contents) (fault : GameFault) (path : Bytes) : Type 0 where
+pub record IsFaultyGame (words : Words) (contents : Contents) (fault : GameFault) (path : Bytes)
+    : Type 0 where
   pub name : Bytes
   pub bytes : Bytes
   pub named : IsGameName words name
   pub read : IsRead contents game_limit name bytes
-  pub first : HasFirstFault bytes fault path
+  pub first : HasGameFault bytes fault path
 
--- the words ask for a pure equilibrium of the game, which is out of reach
-pub record IsOutOfReach (words : Words) (name bytes : Bytes) : Type 0 where
-  pub solve : IsSolvePure words name
-  pub game : GameOf
-  pub stands : StandsFor bytes game
-  pub far : IsWithinReach game → ⊥
-
--- the game text that was read has parts that are not read yet, or the game is out of reach
+-- the words ask for a pure equilibrium of the game that was read, which is out of the trial's reach
 pub record IsUnbuiltGame (words : Words) (contents : Contents) : Type 0 where
   pub name : Bytes
   pub bytes : Bytes
-  pub named : IsGameName words name
+  pub source : SourceOf
+  pub solve : IsSolve words Pure name
   pub read : IsRead contents game_limit name bytes
-  pub unbuilt : IsUnbuilt bytes ⊎ IsOutOfReach words name bytes
+  pub game : IsGameText bytes source
+  pub far : IsWithinReach (expansion source) → ⊥
 
--- why a certificate text is refused at a line: it is out of form, a number's size alone is at fault, or the certificate
--- that it is breaks a rule there or has a step that is too wide
+-- why a certificate text is refused at a line: it is out of form, a number's size alone is at fault,
+-- or the certificate that it is breaks a rule there or has a step that is too wide
 abbrev pub IsFlawed : GameOf → Bytes → ℕ → CertFlaw → Type 0
 IsFlawed game bytes number Form = IsTextFault bytes (texts.NotCert number)
 IsFlawed game bytes number Number = IsTextFault bytes (texts.NumberTooBig number)
@@ -130,8 +168,9 @@ IsFlawed game bytes number Wrong = (c : CertOf) × IsText c bytes × CertRefused
 IsFlawed game bytes number Wide = (c : CertOf) × IsText c bytes × CertRefused game c (checks.Wide number)
 
 -- the certificate that was read is refused at this line
-pub record IsRefusedCert (words : Words) (contents : Contents) (number : ℕ) (flaw : CertFlaw) : Type 0 where
-  pub game : GameOf
+pub record IsRefusedCert (words : Words) (contents : Contents) (number : ℕ) (flaw : CertFlaw)
+    : Type 0 where
+  pub source : SourceOf
   pub bytes : Bytes
-  pub asked : IsAskedCheck words contents game bytes
-  pub flawed : IsFlawed game bytes number flaw
+  pub asked : IsAskedCheck words contents source bytes
+  pub flawed : IsFlawed (expansion source) bytes number flaw

@@ -1,53 +1,46 @@
 -- What the words of the command line ask for.
-use Rattle.std.specs.Prelude.{◌≡◌, List, [], ◌∷◌, map, codes, String, string_bytes, ◌⊎◌}
-use Rattle.std.specs.declared.alloc.Global.{Global}
+use Rattle.std.specs.Prelude.{◌≡◌, ◌⊎◌}
+use Rattle.zr_game.specs.declared.kind.Kind.{Kind}
+use Rattle.zr_game.specs.declared.kind.Kind.TheVariants.{Pure, Mixed}
 use Rattle.zr_io.specs.Contents.{Bytes}
-use Rattle.zero.specs.declared.command.Command.{Command}
-use Rattle.zero.specs.declared.command.Command.TheVariants.{SolvePure, Check, Unbuilt, Faulty}
+use Rattle.zr_words.specs.Words.{Words}
+use Rattle.zr_words.specs.Commands.{Asks}
+use Rattle.zr_words.specs.declared.command.Command.{Command}
+use Rattle.zr_words.specs.declared.command.Command.TheVariants.{Solve, Check, Migrate}
 
--- the words without the program's name
-abbrev pub Words : Type 0
-Words = List Bytes
+-- the command is to solve the game under this name, for this kind of strategies
+abbrev pub Solves : Kind → Bytes → Command → Type 0
+Solves kind name (Solve game options) = (game.now ≡ name) × (options.kind ≡ kind)
+Solves kind name (Check game cert) = ⊥
+Solves kind name (Migrate game) = ⊥
 
--- the bytes of each word
-abbrev pub spelled : List (String Global) → Words
-spelled = map string_bytes
+-- the command is to check the certificate for the game, each under its name
+abbrev pub Checks : Bytes → Bytes → Command → Type 0
+Checks name other (Solve game options) = ⊥
+Checks name other (Check game cert) = (game.now ≡ name) × (cert.now ≡ other)
+Checks name other (Migrate game) = ⊥
 
--- `solve GAME --kind pure`
-abbrev pub IsSolvePure : Words → Bytes → Type 0
-IsSolvePure words name = words ≡ codes "solve" ∷ name ∷ codes "--kind" ∷ codes "pure" ∷ []
+-- the command is to write the text in today's form of the game under this name
+abbrev pub Migrates : Bytes → Command → Type 0
+Migrates name (Solve game options) = ⊥
+Migrates name (Check game cert) = ⊥
+Migrates name (Migrate game) = game.now ≡ name
 
--- `solve GAME`, or `solve GAME --kind mixed`
-abbrev pub IsSolveMixed : Words → Bytes → Type 0
-IsSolveMixed words name =
-    (words ≡ codes "solve" ∷ name ∷ []) ⊎ (words ≡ codes "solve" ∷ name ∷ codes "--kind" ∷ codes "mixed" ∷ [])
+-- the words ask for an equilibrium of the kind
+abbrev pub IsSolve : Words → Kind → Bytes → Type 0
+IsSolve words kind name = (command : Command) × Asks words command × Solves kind name command
 
--- `check GAME CERT`
 abbrev pub IsCheck : Words → Bytes → Bytes → Type 0
-IsCheck words game cert = words ≡ codes "check" ∷ game ∷ cert ∷ []
+IsCheck words name cert = (command : Command) × Asks words command × Checks name cert command
 
--- the first word is `play`, `best` or `gen`
-abbrev pub IsOtherAction : Words → Type 0
-IsOtherAction words =
-    (rest : Words) × ((words ≡ codes "play" ∷ rest) ⊎ (words ≡ codes "best" ∷ rest) ⊎ (words ≡ codes "gen" ∷ rest))
+abbrev pub IsMigrate : Words → Bytes → Type 0
+IsMigrate words name = (command : Command) × Asks words command × Migrates name command
 
--- words of an action that isn't built yet
+-- an equilibrium of mixed strategies isn't searched for yet
 abbrev pub IsUnbuiltCommand : Words → Type 0
-IsUnbuiltCommand words = ((name : Bytes) × IsSolveMixed words name) ⊎ IsOtherAction words
+IsUnbuiltCommand words = (name : Bytes) × IsSolve words Mixed name
 
--- words of no action
-pub record IsFaultyCommand (words : Words) : Type 0 where
-  pub no_solve : (name : Bytes) → IsSolvePure words name → ⊥
-  pub no_check : (game cert : Bytes) → IsCheck words game cert → ⊥
-  pub no_other : IsUnbuiltCommand words → ⊥
-
--- the words name this game
+-- the words ask for something of the game under this name, which is done
 abbrev pub IsGameName : Words → Bytes → Type 0
-IsGameName words name = IsSolvePure words name ⊎ ((cert : Bytes) × IsCheck words name cert)
-
--- the words ask for the command
-abbrev pub Says : Words → Command → Type 0
-Says words (SolvePure name) = IsSolvePure words name.now
-Says words (Check game cert) = IsCheck words game.now cert.now
-Says words Unbuilt = IsUnbuiltCommand words
-Says words Faulty = IsFaultyCommand words
+IsGameName words name =
+    IsSolve words Pure name ⊎ ((cert : Bytes) × IsCheck words name cert) ⊎ IsMigrate words name

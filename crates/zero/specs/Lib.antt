@@ -1,4 +1,5 @@
 pub mod Commands
+pub mod Games
 pub mod ShortText
 pub mod Reads
 pub mod Messages

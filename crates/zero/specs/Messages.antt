@@ -2,9 +2,9 @@
 use Rattle.std.specs.Prelude.{ℕ, ◌∷◌, ◌++◌, codes}
 use Rattle.zr_form.specs.Numbers.{decimal}
 use Rattle.zr_io.specs.Contents.{Bytes}
-use Rattle.zr_read.specs.declared.fault.GameFault.{GameFault}
-use Rattle.zr_read.specs.declared.fault.GameFault.TheVariants.{NotJson}
-use Rattle.zr_read.specs.Faults.{fault_name}
+use Rattle.zr_value.specs.declared.fault.GameFault.{GameFault}
+use Rattle.zr_value.specs.declared.fault.GameFault.TheVariants.{NotJson}
+use Rattle.zr_value.specs.Faults.{fault_name}
 use Rattle.zero.specs.declared.refusal.CertFlaw.{CertFlaw}
 use Rattle.zero.specs.declared.refusal.CertFlaw.TheVariants.{Form, Number, Wrong, Wide}
 use Rattle.zero.specs.declared.text.Text.{Text}

@@ -2,11 +2,12 @@
 use Rattle.std.specs.Prelude.{◌≡◌, ℕ, ◌≤◌, length, Option, Some, None}
 use Rattle.zr_io.specs.Contents.{Bytes, Contents, HoldsMore}
 use Rattle.zr_io.specs.Faults.{next_count}
-use Rattle.zr_game.specs.Players.{GameOf}
-use Rattle.zr_read.specs.Texts.{StandsFor}
+use Rattle.zr_source.specs.Sources.{SourceOf}
+use Rattle.zr_words.specs.Words.{Words}
 use Rattle.zero.specs.declared.text.Text.{Text}
 use Rattle.zero.specs.declared.text.Text.TheVariants.{Game, Cert}
-use Rattle.zero.specs.Commands.{Words, IsCheck, IsGameName}
+use Rattle.zero.specs.Commands.{IsCheck, IsGameName}
+use Rattle.zero.specs.Games.{IsGameText}
 
 -- the greatest length of a game text
 abbrev pub game_limit : ℕ
@@ -55,18 +56,21 @@ IsMore contents limit name = (get : Bytes → Option Bytes) → contents ≡ Som
 
 -- ---- names
 
--- the words ask for a check of the certificate under this name, and the game text that was read stands for the game
-pub record IsDueCert (words : Words) (contents : Contents) (game : GameOf) (name : Bytes) : Type 0 where
+-- the words ask for a check of the certificate under this name, and the game text that was read
+-- stands for the game
+pub record IsDueCert (words : Words) (contents : Contents) (source : SourceOf) (name : Bytes)
+    : Type 0 where
   pub game_name : Bytes
   pub check : IsCheck words game_name name
   pub bytes : Bytes
   pub read : IsRead contents game_limit game_name bytes
-  pub stands : StandsFor bytes game
+  pub text : IsGameText bytes source
 
--- the text under this name is due: a game that the words name, or a certificate once the game text stands for a game
+-- the text under this name is due: a game that the words name, or a certificate once the game text
+-- stands for a game
 abbrev pub IsDue : Words → Contents → Text → Bytes → Type 0
 IsDue words contents Game name = IsGameName words name
-IsDue words contents Cert name = (game : GameOf) × IsDueCert words contents game name
+IsDue words contents Cert name = (source : SourceOf) × IsDueCert words contents source name
 
 -- a text that is due is too long
 pub record IsLong (words : Words) (contents : Contents) (text : Text) (name : Bytes) : Type 0 where

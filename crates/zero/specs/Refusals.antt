@@ -1,12 +1,15 @@
 -- Why the program refuses, and what it says and ends with then.
-use Rattle.std.specs.Prelude.{◌≡◌, ◌≢◌, ℕ, ◌≤◌, ◌++◌, codes, string_bytes, Result, IfErr}
+use Rattle.std.specs.Prelude.{◌≡◌, ◌≢◌, ℕ, ◌≤◌, ◌++◌, codes, String, string_bytes, Option, Some, None, Result, IfErr}
+use Rattle.std.specs.declared.alloc.Global.{Global}
 use Rattle.zr_io.specs.Contents.{Bytes, Contents}
 use Rattle.zr_io.specs.Faults.{Rose}
 use Rattle.zero.specs.declared.refusal.Refusal.{Refusal}
 use Rattle.zero.specs.declared.refusal.Refusal.TheVariants.{Usage, CannotRead, TooLong, Faulty, Flawed, NoMemory, WriteFault, Unbuilt, UnbuiltGame}
 use Rattle.zero.specs.declared.text.Text.{Text}
 use Rattle.zero.specs.declared.text.Text.TheVariants.{Game, Cert}
-use Rattle.zero.specs.Commands.{Words, IsFaultyCommand, IsGameName, IsUnbuiltCommand}
+use Rattle.zr_words.specs.Words.{Words}
+use Rattle.zr_words.specs.Commands.{IsFaulty}
+use Rattle.zero.specs.Commands.{IsGameName, IsUnbuiltCommand}
 use Rattle.zero.specs.Reads.{IsDue, IsLastTake, IsLong}
 use Rattle.zero.specs.Answers.{IsFaultyGame, IsRefusedCert, IsUnbuiltGame}
 use Rattle.zero.specs.Messages.{fault_line, flaw_line, long_line, message}
@@ -15,7 +18,7 @@ use Rattle.zero.specs.Messages.{fault_line, flaw_line, long_line, message}
 
 -- the status to end with
 abbrev pub status_of : Refusal → ℕ
-status_of Usage = 2
+status_of (Usage help) = 2
 status_of (CannotRead text name) = 3
 status_of (TooLong text name) = 4
 status_of (Faulty fault path) = 5
@@ -25,9 +28,14 @@ status_of WriteFault = 12
 status_of Unbuilt = 16
 status_of UnbuiltGame = 16
 
--- the line that says why
+-- what is said of words that are of no action: what `clap` says of their form, and a line
+abbrev pub usage_text : Option (String Global) → Bytes
+usage_text None = message (codes "usage")
+usage_text (Some help) = string_bytes help ++ message (codes "usage")
+
+-- the text that says why
 abbrev pub line_of : Refusal → Bytes
-line_of Usage = message (codes "usage")
+line_of (Usage help) = usage_text help
 line_of (CannotRead text name) = message (codes "cannot read " ++ name.now)
 line_of (TooLong text name) = long_line text name.now
 line_of (Faulty fault path) = fault_line fault (string_bytes path)
@@ -37,25 +45,25 @@ line_of WriteFault = message (codes "write fault")
 line_of Unbuilt = message (codes "not built yet")
 line_of UnbuiltGame = message (codes "not built yet")
 
--- the words name a game; memory is taken and an answer written only then
+-- the words name a game; an answer is written only then
 abbrev pub NamesGame : Words → Type 0
 NamesGame words = (name : Bytes) × IsGameName words name
 
 -- why the words have no answer
 abbrev pub IsCause : Words → Contents → Refusal → Type 0
-IsCause words contents Usage = IsFaultyCommand words
+IsCause words contents (Usage help) = IsFaulty words
 IsCause words contents (CannotRead text name) = IsDue words contents text name.now
 IsCause words contents (TooLong text name) = IsLong words contents text name.now
 IsCause words contents (Faulty fault path) = IsFaultyGame words contents fault (string_bytes path)
 IsCause words contents (Flawed number flaw) = IsRefusedCert words contents number flaw
-IsCause words contents NoMemory = NamesGame words
+IsCause words contents NoMemory = Unit {0}
 IsCause words contents WriteFault = NamesGame words
 IsCause words contents Unbuilt = IsUnbuiltCommand words
 IsCause words contents UnbuiltGame = IsUnbuiltGame words contents
 
 -- what was taken before the refusal, by the counts of takes: nothing, or last the text that it speaks of
 abbrev pub HasTaken : ℕ → ℕ → Refusal → Type 0
-HasTaken before after Usage = after ≡ before
+HasTaken before after (Usage help) = after ≡ before
 HasTaken before after (CannotRead text name) = IsLastTake text before after
 HasTaken before after (TooLong text name) = IsLastTake text before after
 HasTaken before after (Faulty fault path) = IsLastTake Game before after

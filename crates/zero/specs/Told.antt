@@ -1,12 +1,15 @@
 -- What comes of texts that the shelf tells.
 use Rattle.std.specs.Prelude.{◌≡◌, ℕ, ◌⊎◌}
-use Rattle.zr_game.specs.Players.{GameOf}
 use Rattle.zr_io.specs.Contents.{Bytes, Contents}
-use Rattle.zr_read.specs.Texts.{StandsFor, HasFirstFault, IsUnbuilt}
-use Rattle.zr_read.specs.declared.fault.GameFault.{GameFault}
+use Rattle.zr_game.specs.declared.kind.Kind.TheVariants.{Pure}
+use Rattle.zr_source.specs.Sources.{SourceOf}
+use Rattle.zr_follow.specs.Expansion.{expansion}
+use Rattle.zr_value.specs.declared.fault.GameFault.{GameFault}
 use Rattle.zr_trial.specs.Reach.{IsWithinReach}
 use Rattle.zr_cert.specs.Certs.{CertOf}
-use Rattle.zero.specs.Commands.{Words, IsCheck, IsGameName, IsSolvePure}
+use Rattle.zr_words.specs.Words.{Words}
+use Rattle.zero.specs.Commands.{IsCheck, IsGameName, IsMigrate, IsSolve}
+use Rattle.zero.specs.Games.{HasGameFault, IsGameText}
 use Rattle.zero.specs.Reads.{IsTold, cert_limit, game_limit}
 use Rattle.zero.specs.Answers.{IsRightText}
 
@@ -24,28 +27,31 @@ pub record IsToldGame (words : Words) (contents : Contents) (bytes : Bytes) : Ty
 
 -- the status that the bytes of the game's text settle
 pub record IsGameStatus (words : Words) (bytes : Bytes) (status : ℕ) : Type 0 where
-  pub faulty : (fault : GameFault) (path : Bytes) → HasFirstFault bytes fault path → IsStatus 5 status
-  pub unbuilt : IsUnbuilt bytes → IsStatus 16 status
-  pub far : (name : Bytes) (game : GameOf) → IsSolvePure words name → StandsFor bytes game → (IsWithinReach game → ⊥)
-      → IsStatus 16 status
-  pub near : (name : Bytes) (game : GameOf) → IsSolvePure words name → StandsFor bytes game → IsWithinReach game
-      → IsStatus 0 status
+  pub faulty : (fault : GameFault) (path : Bytes) → HasGameFault bytes fault path → IsStatus 5 status
+  pub far : (name : Bytes) (source : SourceOf) → IsSolve words Pure name → IsGameText bytes source
+      → (IsWithinReach (expansion source) → ⊥) → IsStatus 16 status
+  pub near : (name : Bytes) (source : SourceOf) → IsSolve words Pure name → IsGameText bytes source
+      → IsWithinReach (expansion source) → IsStatus 0 status
+  pub migrated : (name : Bytes) (source : SourceOf) → IsMigrate words name
+      → IsGameText bytes source → IsStatus 0 status
 
 -- ---- the certificate
 
 -- the words ask for a check of two texts that are told, and the game's stands for the game
-pub record IsToldCheck (words : Words) (contents : Contents) (game : GameOf) (bytes : Bytes) : Type 0 where
+pub record IsToldCheck (words : Words) (contents : Contents) (source : SourceOf) (bytes : Bytes)
+    : Type 0 where
   pub game_name : Bytes
   pub cert_name : Bytes
   pub check : IsCheck words game_name cert_name
   pub game_bytes : Bytes
   pub game_told : IsTold contents game_limit game_name game_bytes
-  pub stands : StandsFor game_bytes game
+  pub text : IsGameText game_bytes source
   pub cert_told : IsTold contents cert_limit cert_name bytes
 
--- its status is 0 where the bytes are a right certificate's text, and 6 where they are of none; want of memory is free
-abbrev pub IsCheckStatus : GameOf → Bytes → ℕ → Type 0
-IsCheckStatus game bytes status =
-    ((status ≡ 0) × (cert : CertOf) × IsRightText game bytes cert)
-    ⊎ ((status ≡ 6) × ((cert : CertOf) → IsRightText game bytes cert → ⊥))
+-- its status is 0 where the bytes are the text of a certificate that is right for the game with its
+-- followers' conditions, and 6 where they are of none; want of memory is free
+abbrev pub IsCheckStatus : SourceOf → Bytes → ℕ → Type 0
+IsCheckStatus source bytes status =
+    ((status ≡ 0) × (cert : CertOf) × IsRightText (expansion source) bytes cert)
+    ⊎ ((status ≡ 6) × ((cert : CertOf) → IsRightText (expansion source) bytes cert → ⊥))
     ⊎ (status ≡ 11)

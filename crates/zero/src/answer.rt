@@ -1,38 +1,60 @@
-ghost use Rattle.std.specs.Prelude.{◌≡◌, ◌≢◌, IfOk, IfErr, IsErrAnd, string_bytes};
+ghost use Rattle.std.specs.Prelude.{◌≡◌, ◌≢◌, ◌⊎◌, IfOk, IfErr, IsErrAnd};
 ghost use Rattle.zr_io.specs.Contents.{Bytes};
-ghost use Rattle.zero.specs.Commands.{IsGameName, spelled};
+ghost use Rattle.zr_words.specs.Words.{spelled};
+ghost use Rattle.zr_words.specs.Commands.{Asks, IsFaulty};
+ghost use Rattle.zr_words.specs.declared.command.Command.{Command as CommandView};
+ghost use Rattle.zero.specs.Commands.{IsGameName, IsUnbuiltCommand};
 ghost use Rattle.zero.specs.Answers.{IsAnswer};
 ghost use Rattle.zero.specs.Reads.{Lacks};
 ghost use Rattle.zero.specs.Refusals.{HasTaken, IsCause, Keeps, status_of};
+ghost use Rattle.zero.specs.Told.{IsStatus};
 
 use crate::check::check;
-use crate::command::{Command, command_of};
+use crate::migrate::migrate;
 use crate::refusal::Refusal;
 use crate::solve::solve;
 use std::alloc::Global;
+use zr_game::Kind;
 use zr_io::Shelf;
+use zr_words::{Command, Refused, read_words};
 
 /// The text that answers the words.
 pub fn answer_to<'w, S: Shelf>(
     alloc: Global,
     words: &'w [String],
     shelf: &mut S,
-) -> Result<String, Refusal<'w>>
+) -> Result<Vec<u8>, Refusal<'w>>
     ensures ok { IfOk result (λ text. IsAnswer (spelled words.now) (S.contents shelf.old)
-        (string_bytes text)) }
+        text.items) }
     ensures err { IfErr result (IsCause (spelled words.now) (S.contents shelf.old)) }
 
     ensures keeps { Keeps S.contents S.faults_of shelf.old shelf.new result }
     ensures lacks { (name : Bytes) → IsGameName (spelled words.now) name
         → Lacks (S.contents shelf.old) name
-        → IsErrAnd result (λ refusal. status_of refusal ≡ 3) }
+        → IsErrAnd result (λ refusal. IsStatus 3 (status_of refusal)) }
     ensures taken { IfErr result (HasTaken (S.takes_of shelf.old) (S.takes_of shelf.new)) }
     ensures unwritten { IfErr result (λ refusal. status_of refusal ≢ 12) }
 {
-    match command_of(words) {
-        Command::SolvePure { name } => solve(alloc, name, shelf),
+    match command_of(alloc, words)? {
+        Command::Solve { game, options } => match options.kind {
+            Kind::Pure => solve(alloc, game, shelf),
+            Kind::Mixed => Err(Refusal::Unbuilt),
+        },
         Command::Check { game, cert } => check(alloc, game, cert, shelf),
-        Command::Unbuilt => Err(Refusal::Unbuilt),
-        Command::Faulty => Err(Refusal::Usage),
+        Command::Migrate { game } => migrate(alloc, game, shelf),
+    }
+}
+
+/// The command of the words.
+fn command_of<'w>(alloc: Global, words: &'w [String]) -> Result<Command<'w>, Refusal<'w>>
+    ensures ok { IfOk result (Asks (spelled words.now)) }
+    ensures err { IfErr result (λ refusal. (refusal ≡ Refusal.NoMemory)
+        ⊎ ((status_of refusal ≡ 2) × IsFaulty (spelled words.now))) }
+{
+    match read_words(alloc, words) {
+        Ok(command) => Ok(command),
+        Err(Refused::Form { text }) => Err(Refusal::Usage { help: Some(text) }),
+        Err(Refused::Action) => Err(Refusal::Usage { help: None }),
+        Err(Refused::NoMemory) => Err(Refusal::NoMemory),
     }
 }

@@ -1,21 +1,24 @@
-ghost use Rattle.std.specs.Prelude.{◌≡◌, ◌≢◌, ◌≤◌, IfOk, IfErr, IsErrAnd, length, string_bytes};
+ghost use Rattle.std.specs.Prelude.{◌≡◌, ◌≢◌, ◌≤◌, IfOk, IfErr, IsErrAnd, length};
 ghost use Rattle.zr_game.specs.Games.{game_of};
-ghost use Rattle.zr_game.specs.Players.{GameOf};
+ghost use Rattle.zr_source.specs.Sources.{SourceOf};
+ghost use Rattle.zr_follow.specs.Expansion.{expansion};
+ghost use Rattle.zr_read.specs.Texts.{source_of};
 ghost use Rattle.zr_io.specs.Contents.{Contents};
 ghost use Rattle.zr_cert.specs.Certs.{verdict_of};
 ghost use Rattle.zr_cert.specs.Listed.{cert_of};
 ghost use Rattle.zr_text.specs.Faults.{IsText};
-ghost use Rattle.zero.specs.Commands.{IsCheck, Words};
+ghost use Rattle.zr_words.specs.Words.{Words};
+ghost use Rattle.zero.specs.Commands.{IsCheck};
 ghost use Rattle.zero.specs.Answers.{IsAccepted, IsAnswer, IsAskedCheck, accepted_text, kind_name, verdict_name};
 ghost use Rattle.zero.specs.Reads.{Lacks, cert_limit};
 ghost use Rattle.zero.specs.Refusals.{ComesOf, HasTaken, IsCause, Keeps, status_of};
 
-use crate::reading::{content_of, game_in};
+use crate::reading::{Reading, content_of, reading_in};
 use crate::refusal::{CertFlaw, Refusal};
 use crate::text::Text;
 use std::alloc::Global;
 use zr_check::{Cert, CertFault, Verdict, check_cert, scratch_for};
-use zr_game::{Game, Kind};
+use zr_game::Kind;
 use zr_io::Shelf;
 use zr_text::{TextError, read_cert};
 
@@ -25,9 +28,9 @@ pub fn check<'w, S: Shelf>(
     game_name: &'w str,
     cert_name: &'w str,
     shelf: &mut S,
-) -> Result<String, Refusal<'w>>
+) -> Result<Vec<u8>, Refusal<'w>>
     ensures ok { (words : Words) → IsCheck words game_name.now cert_name.now
-        → IfOk result (λ text. IsAnswer words (S.contents shelf.old) (string_bytes text)) }
+        → IfOk result (λ text. IsAnswer words (S.contents shelf.old) text.items) }
     ensures err { (words : Words) → IsCheck words game_name.now cert_name.now
         → IfErr result (IsCause words (S.contents shelf.old)) }
 
@@ -38,21 +41,24 @@ pub fn check<'w, S: Shelf>(
     ensures unwritten { IfErr result (λ refusal. status_of refusal ≢ 12) }
 {
     let game_text = content_of(shelf, game_name, Text::Game)?;
-    let game = game_in(alloc, game_text.as_slice())?;
+    let reading = reading_in(alloc, game_text.as_slice())?;
     let cert_text = content_of(shelf, cert_name, Text::Cert)?;
-    accept(alloc, &game, cert_text.as_slice())
+    accept(alloc, &reading, cert_text.as_slice())
 }
 
 /// The text that says that the bytes are the text of a certificate that is accepted for the game.
-fn accept<'w>(alloc: Global, game: &Game, bytes: &[u8]) -> Result<String, Refusal<'w>>
-    requires { length bytes.now ≤ cert_limit }
-    ensures ok { IfOk result (λ text. IsAccepted (game_of game.now) bytes.now (string_bytes text)) }
+fn accept<'w>(alloc: Global, reading: &Reading, bytes: &[u8]) -> Result<Vec<u8>, Refusal<'w>>
+    requires game { game_of reading.now.game ≡ expansion (source_of reading.now.source) }
+    requires len { length bytes.now ≤ cert_limit }
+    ensures ok { IfOk result (λ text.
+        IsAccepted (source_of reading.now.source) bytes.now text.items) }
     ensures err { (words : Words) (contents : Contents)
-        → IsAskedCheck words contents (game_of game.now) bytes.now
+        → IsAskedCheck words contents (source_of reading.now.source) bytes.now
         → IfErr result (IsCause words contents) }
     ensures comes { IfErr result (ComesOf Text.Cert) }
 {
     let cert = cert_in(alloc, bytes)?;
+    let game = &reading.game;
     let Ok(mut room) = scratch_for(alloc, game, &cert) else {
         return Err(Refusal::NoMemory);
     };
@@ -67,8 +73,8 @@ fn accept<'w>(alloc: Global, game: &Game, bytes: &[u8]) -> Result<String, Refusa
 fn cert_in<'w>(alloc: Global, bytes: &[u8]) -> Result<Cert, Refusal<'w>>
     requires { length bytes.now ≤ cert_limit }
     ensures ok { IfOk result (λ cert. IsText (cert_of cert) bytes.now) }
-    ensures err { (words : Words) (contents : Contents) (game : GameOf)
-        → IsAskedCheck words contents game bytes.now → IfErr result (IsCause words contents) }
+    ensures err { (words : Words) (contents : Contents) (source : SourceOf)
+        → IsAskedCheck words contents source bytes.now → IfErr result (IsCause words contents) }
     ensures comes { IfErr result (ComesOf Text.Cert) }
 {
     match read_cert(alloc, bytes) {
@@ -80,14 +86,14 @@ fn cert_in<'w>(alloc: Global, bytes: &[u8]) -> Result<Cert, Refusal<'w>>
 }
 
 /// The line for an accepted certificate.
-fn accepted<'w>(alloc: Global, cert: &Cert) -> Result<String, Refusal<'w>>
-    ensures ok { IfOk result (λ text. string_bytes text ≡ accepted_text (cert_of cert.now)) }
+fn accepted<'w>(alloc: Global, cert: &Cert) -> Result<Vec<u8>, Refusal<'w>>
+    ensures ok { IfOk result (λ text. text.items ≡ accepted_text (cert_of cert.now)) }
     ensures err { IfErr result (λ refusal. refusal ≡ Refusal.NoMemory) }
 {
     let kind = name_of_kind(cert.kind);
     let verdict = name_of_verdict(&cert.verdict);
     match format!(in alloc; "accepted {kind} {verdict}\n") {
-        Ok(text) => Ok(text),
+        Ok(text) => Ok(text.into_bytes()),
         Err(_) => Err(Refusal::NoMemory),
     }
 }

@@ -1,13 +1,14 @@
 //! Equilibria of integer programming games, and the check of certificates.
 //!
 //! `zero solve GAME --kind pure` decides whether a game has an equilibrium in which each player
-//! plays one point. `zero check GAME CERT` tells whether a certificate is right for a game. GAME and
-//! CERT are files, or `-` for standard input.
+//! plays one point. `zero check GAME CERT` tells whether a certificate is right for a game.
+//! `zero migrate GAME` writes a game's text in today's form. GAME and CERT are files, or `-` for
+//! standard input.
 #![tactic(auto)]
 
 mod answer;
 mod check;
-mod command;
+mod migrate;
 mod reading;
 mod refusal;
 mod run;
@@ -35,7 +36,7 @@ fn words_of<R: Env + AllocGlobal>(rt: &R) -> Result<Vec<String>, Refusal<'static
             Err(_) => Err(Refusal::NoMemory),
         },
         Err(e) if e.kind() == ErrorKind::OutOfMemory => Err(Refusal::NoMemory),
-        Err(_) => Err(Refusal::Usage),
+        Err(_) => Err(Refusal::Usage { help: None }),
     }
 }
 

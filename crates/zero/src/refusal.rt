@@ -3,11 +3,11 @@ ghost use Rattle.zr_form.specs.Numbers.{decimal};
 ghost use Rattle.zr_io.specs.Faults.{Rose};
 ghost use Rattle.zr_io.specs.Written.{Appends, AppendsPrefix};
 ghost use Rattle.zero.specs.Messages.{fault_line, flaw_line, flaw_name};
-ghost use Rattle.zero.specs.Refusals.{line_of, status_of};
+ghost use Rattle.zero.specs.Refusals.{line_of, status_of, usage_text};
 
 use crate::text::Text;
 use zr_io::{Sink, SinkError, put_all};
-use zr_read::GameFault;
+use zr_value::GameFault;
 
 /// Why a line of a certificate's text is refused.
 #[derive(Clone, Copy, Debug, PartialEq, Eq)]
@@ -46,8 +46,8 @@ impl CertFlaw {
 /// Why the program gives no answer.
 #[derive(Debug, Drop)]
 pub enum Refusal<'a> {
-    /// The words are of no action.
-    Usage,
+    /// The words are of no action. Where they are out of form, `clap` says why.
+    Usage { help: Option<String> },
     /// The shelf failed at the text under this name.
     CannotRead { text: Text, name: &'a str },
     /// This name holds more bytes than the text may have.
@@ -72,7 +72,7 @@ impl Refusal<'_> {
         ensures { result ≡ status_of self.now }
     {
         match self {
-            Refusal::Usage => 2,
+            Refusal::Usage { .. } => 2,
             Refusal::CannotRead { .. } => 3,
             Refusal::TooLong { .. } => 4,
             Refusal::Faulty { .. } => 5,
@@ -95,7 +95,7 @@ impl Refusal<'_> {
         ensures grows { E.faults_of err.old ≤ E.faults_of err.new }
     {
         match self {
-            Refusal::Usage => put_all(err, b"zero: usage\n"),
+            Refusal::Usage { help } => put_usage(err, help),
             Refusal::CannotRead { name, .. } => put_named(err, "zero: cannot read ", name, "\n"),
             Refusal::TooLong { text, name } => put_named(err, "zero: ", name, text.excess()),
             Refusal::Faulty { fault, path } => put_fault(err, *fault, path.as_str()),
@@ -104,6 +104,19 @@ impl Refusal<'_> {
             Refusal::WriteFault => put_all(err, b"zero: write fault\n"),
             Refusal::Unbuilt | Refusal::UnbuiltGame => put_all(err, b"zero: not built yet\n"),
         }
+    }
+}
+
+/// What `clap` says of the words, and the line of words that are of no action.
+fn put_usage<E: Sink>(err: &mut E, help: &Option<String>) -> Result<(), SinkError>
+    ensures ok { OnOk result (Appends (E.written err.old) (usage_text help.now) (E.written err.new)) }
+    ensures err { OnErr result (AppendsPrefix (E.written err.old) (usage_text help.now) (E.written err.new)) }
+    ensures failed { result ≡ Err SinkError.Failed → Rose (E.faults_of err.old) (E.faults_of err.new) }
+    ensures grows { E.faults_of err.old ≤ E.faults_of err.new }
+{
+    match help {
+        Some(help) => put_both(err, help.as_str(), "zero: usage\n"),
+        None => put_all(err, b"zero: usage\n"),
     }
 }
 

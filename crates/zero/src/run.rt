@@ -1,17 +1,19 @@
-ghost use Rattle.std.specs.Prelude.{◌≡◌, ◌≢◌, ◌↔◌, ◌≤◌, ◌⊎◌, ℕ, OnOk, IfErr, IsErrAnd};
-ghost use Rattle.zr_game.specs.Players.{GameOf};
+ghost use Rattle.std.specs.Prelude.{◌≡◌, ◌≢◌, ◌≤◌, ◌⊎◌, ℕ, OnOk, IfErr, IsErrAnd};
+ghost use Rattle.zr_source.specs.Sources.{SourceOf};
 ghost use Rattle.zr_io.specs.Contents.{Bytes};
 ghost use Rattle.zr_io.specs.Faults.{Rose};
 ghost use Rattle.zr_io.specs.Written.{Appends, AppendsPrefix};
-ghost use Rattle.zr_read.specs.declared.fault.GameFault.{GameFault};
+ghost use Rattle.zr_value.specs.declared.fault.GameFault.{GameFault};
 ghost use Rattle.zero.specs.declared.refusal.CertFlaw.{CertFlaw};
 ghost use Rattle.zero.specs.declared.text.Text.{Text as Kept};
 ghost use Rattle.zero.specs.declared.text.Text.TheVariants.{Game, Cert};
-ghost use Rattle.zero.specs.Commands.{IsFaultyCommand, IsGameName, IsUnbuiltCommand, spelled};
+ghost use Rattle.zr_words.specs.Words.{spelled};
+ghost use Rattle.zr_words.specs.Commands.{IsFaulty};
+ghost use Rattle.zero.specs.Commands.{IsGameName, IsUnbuiltCommand};
 ghost use Rattle.zero.specs.Answers.{HasBegun, IsAnswer, IsFaultyGame, IsRefusedCert, IsUnbuiltGame};
 ghost use Rattle.zero.specs.Reads.{IsDue, IsLastTake, IsLong, Lacks};
 ghost use Rattle.zero.specs.Refusals.{HasTaken, IsCause, IsLine, Keeps, status_of};
-ghost use Rattle.zero.specs.Told.{IsCheckStatus, IsGameStatus, IsToldCheck, IsToldGame};
+ghost use Rattle.zero.specs.Told.{IsCheckStatus, IsGameStatus, IsStatus, IsToldCheck, IsToldGame};
 
 use crate::answer::answer_to;
 use crate::refusal::Refusal;
@@ -48,13 +50,14 @@ pub fn zero_run<S: Shelf, O: Sink, E: Sink>(
         × Appends (O.written out.old) text (O.written out.new) }
 
     // Why there is none, and which text was the last to be taken then.
-    ensures usage { (result ≡ 2) ↔ IsFaultyCommand (spelled words.now) }
+    ensures usage { result ≡ 2 → IsFaulty (spelled words.now) }
+    ensures faulty_words { IsFaulty (spelled words.now) → IsStatus 2 result }
     ensures unread { result ≡ 3 → ((text : Kept) × (name : Bytes)
         × IsDue (spelled words.now) (S.contents shelf.old) text name
         × IsLastTake text (S.takes_of shelf.old) (S.takes_of shelf.new))
         × Rose (S.faults_of shelf.old) (S.faults_of shelf.new) }
     ensures lacks { (name : Bytes) → IsGameName (spelled words.now) name
-        → Lacks (S.contents shelf.old) name → result ≡ 3 }
+        → Lacks (S.contents shelf.old) name → IsStatus 3 result }
     ensures long { result ≡ 4 → (text : Kept) × (name : Bytes)
         × IsLong (spelled words.now) (S.contents shelf.old) text name
         × IsLastTake text (S.takes_of shelf.old) (S.takes_of shelf.new) }
@@ -70,7 +73,7 @@ pub fn zero_run<S: Shelf, O: Sink, E: Sink>(
     ensures unbuilt { result ≡ 16 → IsUnbuiltCommand (spelled words.now)
         ⊎ (IsUnbuiltGame (spelled words.now) (S.contents shelf.old)
         × IsLastTake Game (S.takes_of shelf.old) (S.takes_of shelf.new)) }
-    ensures unbuilt_command { IsUnbuiltCommand (spelled words.now) → result ≡ 16 }
+    ensures unbuilt_command { IsUnbuiltCommand (spelled words.now) → IsStatus 16 result }
 
     // A game text that is told, within its limit, with no fault of the shelf or of `out`: its bytes
     // settle the status, but for want of memory.
@@ -83,11 +86,11 @@ pub fn zero_run<S: Shelf, O: Sink, E: Sink>(
     // A check of texts that are told, within their limits, of which the game's stands for a game,
     // with no fault of the shelf or of `out`: it ends with 0 exactly where the certificate is right
     // and no step of its check is too wide, and else with 6, but for want of memory.
-    ensures told { (game : GameOf) (bytes : Bytes)
-        → IsToldCheck (spelled words.now) (S.contents shelf.old) game bytes
+    ensures told { (source : SourceOf) (bytes : Bytes)
+        → IsToldCheck (spelled words.now) (S.contents shelf.old) source bytes
         → (Rose (S.faults_of shelf.old) (S.faults_of shelf.new) → ⊥)
         → (Rose (O.faults_of out.old) (O.faults_of out.new) → ⊥)
-        → IsCheckStatus game bytes result }
+        → IsCheckStatus source bytes result }
 
     // What was written where there is none: no status but 11 and 12 leaves a part of an answer.
     ensures begun { result ≢ 0 → (O.written out.new ≡ O.written out.old)
@@ -129,7 +132,7 @@ fn answer<'w, S: Shelf, O: Sink>(
     ensures keeps { Keeps S.contents S.faults_of shelf.old shelf.new result }
     ensures lacks { (name : Bytes) → IsGameName (spelled words.now) name
         → Lacks (S.contents shelf.old) name
-        → IsErrAnd result (λ refusal. status_of refusal ≡ 3) }
+        → IsErrAnd result (λ refusal. IsStatus 3 (status_of refusal)) }
     ensures taken { IfErr result (HasTaken (S.takes_of shelf.old) (S.takes_of shelf.new)) }
 
     ensures unwritten { IfErr result (λ refusal. status_of refusal ≡ 12
@@ -143,7 +146,7 @@ fn answer<'w, S: Shelf, O: Sink>(
     ensures counts { O.faults_of out.old ≤ O.faults_of out.new }
 {
     let text = answer_to(alloc, words, shelf)?;
-    match put_all(out, text.as_bytes()) {
+    match put_all(out, text.as_slice()) {
         Ok(()) => Ok(()),
         Err(SinkError::Failed) => Err(Refusal::WriteFault),
         Err(SinkError::NoMemory) => Err(Refusal::NoMemory),

@@ -1,5 +1,5 @@
-use Rattle.std.proofs.Common.{rules, string_bytes}
-use Rattle.zero.specs.Commands.{spelled}
+use Rattle.std.proofs.Common.{rules}
+use Rattle.zr_words.specs.Words.{spelled}
 use Rattle.zero.proofs.CauseLemmas.{names_of_answer}
 use Rattle.zero.proofs.run.answer.Goals as goal
 
@@ -9,7 +9,7 @@ returns-in_err-text-clause-lacks g c = λ name named lacks.
     search (rules, h)
 
 pub returns-in-Err-Failed-clause-err : goal.returns-in-Err-Failed-clause-err
-returns-in-Err-Failed-clause-err g c = names_of_answer (spelled c.args.words.now) (g.S.Shelf.contents c.args.shelf.now) (string_bytes c.in_ok-text.text) c.in_ok-text.ensures.ok
+returns-in-Err-Failed-clause-err g c = names_of_answer (spelled c.args.words.now) (g.S.Shelf.contents c.args.shelf.now) c.in_ok-text.text.items c.in_ok-text.ensures.ok
 
 pub returns-clause-err : goal.returns-clause-err
-returns-clause-err g c = names_of_answer (spelled c.args.words.now) (g.S.Shelf.contents c.args.shelf.now) (string_bytes c.in_ok-text.text) c.in_ok-text.ensures.ok
+returns-clause-err g c = names_of_answer (spelled c.args.words.now) (g.S.Shelf.contents c.args.shelf.now) c.in_ok-text.text.items c.in_ok-text.ensures.ok

@@ -1,5 +1,5 @@
 use Rattle.std.proofs.Common.{refl, sym, ◌∙◌, subst, inl}
-use Rattle.zero.specs.Commands.{spelled}
+use Rattle.zr_words.specs.Words.{spelled}
 use Rattle.zero.specs.Refusals.{line_of}
 use Rattle.zero.specs.Told.{IsCheckStatus, IsGameStatus}
 use Rattle.zero.proofs.LineLemmas.{fault_of, flaw_of, long_of, unbuilt_of, unread_of}
@@ -53,14 +53,14 @@ returns-in-Err-clause-told_game g c = λ bytes told shelf out.
     subst (IsGameStatus words bytes) (sym c.status.ensures) (refusal_status words contents bytes told refusal c.in-Err.ensures.err (λ three. shelf (c.in-Err.ensures.keeps.unread three)) (λ twelve. out (c.in-Err.ensures.unwritten twelve).0))
 
 pub returns-in-Ok-clause-told : goal.returns-in-Ok-clause-told
-returns-in-Ok-clause-told g c = λ game bytes told shelf out.
+returns-in-Ok-clause-told g c = λ source bytes told shelf out.
     let text = c.in-Ok.ensures.ok in
-    let right = told_answer (spelled c.args.words.now) (g.S.Shelf.contents c.args.shelf.now) game bytes told text.0 text.1 in
+    let right = told_answer (spelled c.args.words.now) (g.S.Shelf.contents c.args.shelf.now) source bytes told text.0 text.1 in
     inl (refl, right.0, right.1)
 
 pub returns-in-Err-clause-told : goal.returns-in-Err-clause-told
-returns-in-Err-clause-told g c = λ game bytes told shelf out.
+returns-in-Err-clause-told g c = λ source bytes told shelf out.
     let words = spelled c.args.words.now in
     let contents = g.S.Shelf.contents c.args.shelf.now in
     let refusal = c.in-Err.refusal in
-    subst (IsCheckStatus game bytes) (sym c.status.ensures) (told_refusal words contents game bytes told refusal c.in-Err.ensures.err (λ three. shelf (c.in-Err.ensures.keeps.unread three)) (λ twelve. out (c.in-Err.ensures.unwritten twelve).0))
+    subst (IsCheckStatus source bytes) (sym c.status.ensures) (told_refusal words contents source bytes told refusal c.in-Err.ensures.err (λ three. shelf (c.in-Err.ensures.keeps.unread three)) (λ twelve. out (c.in-Err.ensures.unwritten twelve).0))

@@ -1,0 +1,36 @@
+-- What is true of a game with its followers' conditions is true of the game as it was read.
+use Rattle.std.proofs.Common.{◌≡◌, List, length, ◌∙◌}
+use Rattle.std.proofs.lemmas.List.{length-map}
+use Rattle.zr_base.specs.Points.{PointOf}
+use Rattle.zr_game.specs.Profiles.{Profile}
+use Rattle.zr_game.specs.Equilibria.{IsEquilibrium}
+use Rattle.zr_game.specs.declared.kind.Kind.{Kind}
+use Rattle.zr_source.specs.Sources.{SourceOf}
+use Rattle.zr_source.specs.SourceForms.{IsSource}
+use Rattle.zr_follow.specs.Expansion.{expanded, expansion}
+use Rattle.zr_follow.proofs.Equilibria.{equilibria, kinds_base, none_alike}
+use Rattle.zr_follow.proofs.Relations.{expansion_is}
+use Rattle.zr_trial.specs.First.{IsFirstEquilibrium, pure_profile}
+use Rattle.zr_cert.specs.Certs.{EmptyVerdict, ProfileVerdict, VerdictOf, profile_with}
+use Rattle.zr_check.specs.Truth.{IsTrueVerdict}
+use Rattle.zero.specs.Answers.{IsFound, IsTrueOf}
+
+module _ (source : SourceOf) (form : IsSource source) where
+  as_many : (profile : Profile) → IsEquilibrium (expansion source) profile → length profile ≡ length source
+  as_many profile e = e.valid.len ∙ length-map source expanded
+
+  pub true_of : (kind : Kind) (verdict : VerdictOf) → IsTrueVerdict (expansion source) kind verdict
+      → IsTrueOf source kind verdict
+  true_of kind (ProfileVerdict mixtures bounds) (of_kind, e) =
+      let profile = profile_with mixtures in
+      ((kinds_base source profile (as_many profile e) kind).0 of_kind,
+      (equilibria source form (expansion source) (expansion_is source) profile e.valid).0 e)
+  true_of kind (EmptyVerdict i nodes) none =
+      (none_alike source form (expansion source) (expansion_is source) kind).0 none
+
+  pub found_of : (points : List PointOf) → IsFirstEquilibrium (expansion source) points → IsFound source points
+  found_of points first = record {
+    first = first;
+    equilibrium = (equilibria source form (expansion source) (expansion_is source)
+        (pure_profile points) first.equilibrium.valid).0 first.equilibrium;
+  }
