@@ -1,3 +1,5 @@
+mod followers;
+
 use crate::run::zero_run;
 use std::alloc::{AllocError, Global};
 use std::process::Abort;
@@ -87,6 +89,9 @@ leaf 0 2 0 1 2 2
 end
 ";
 
+const MIGRATED: &str =
+    r#"{"format":"zero-game/2","players":[{"cost":[["x",-1]],"cross":[],"followers":[],"name":"A","pairs":[],"rows":[],"vars":[{"int":true,"low":0,"name":"x","up":1}]}]}"#;
+
 const NO_PENNIES: &str = "zero-short/1\nkind pure 2\nverdict none\nend\n";
 
 /// What a run over a shelf and sinks in memory gives.
@@ -154,19 +159,46 @@ fn games_are_solved(rt: HostRuntime) -> Result<(), Fail> {
     Ok(())
 }
 
+/// Words of no action: what `clap` says of them comes before the line.
 #[test]
 fn words_are_refused(rt: HostRuntime) -> Result<(), Fail> {
-    for (line, status, said) in [
-        ("", 2, "zero: usage\n"),
-        ("solve g --kind", 2, "zero: usage\n"),
-        ("check g", 2, "zero: usage\n"),
-        ("check g c d", 2, "zero: usage\n"),
-        ("best g c", 16, "zero: not built yet\n"),
-        ("solve g", 16, "zero: not built yet\n"),
-        ("solve g --kind mixed", 16, "zero: not built yet\n"),
+    for line in [
+        "",
+        "solve g --kind",
+        "solve g --kind both",
+        "solve g --budget 1000000001",
+        "solve g --rounds 10001 --kind pure",
+        "solve g h",
+        "check g",
+        "check g c d",
+        "best g c",
+        "play g",
+        "--help",
     ] {
         let ran = run_over(rt.alloc(), line, &[("g", ONE_BINARY.as_bytes())], [None; 3])?;
-        compare(&rt, &ran, (status, "", said));
+        assert_eq!(rt; ran.status, 2);
+        assert!(rt; ran.out.bytes().is_empty());
+        assert!(rt; ran.err.bytes().ends_with(b"zero: usage\n"));
+    }
+    Ok(())
+}
+
+/// Options may stand at any place, and each is read.
+#[test]
+fn options_are_read(rt: HostRuntime) -> Result<(), Fail> {
+    for (line, want) in [
+        ("--kind=pure solve g", (0, FOUND, "")),
+        (
+            "solve --budget 0 g --rounds=0 --kind pure --order 7",
+            (0, FOUND, ""),
+        ),
+        ("solve --kind pure -- g", (0, FOUND, "")),
+        ("solve g", (16, "", "zero: not built yet\n")),
+        ("solve g --kind mixed", (16, "", "zero: not built yet\n")),
+        ("migrate g", (0, MIGRATED, "")),
+    ] {
+        let ran = run_over(rt.alloc(), line, &[("g", ONE_BINARY.as_bytes())], [None; 3])?;
+        compare(&rt, &ran, want);
     }
     Ok(())
 }
@@ -354,7 +386,7 @@ fn checks_are_refused_in_order(rt: HostRuntime) -> Result<(), Fail> {
         (
             [paired, empty],
             [None; 3],
-            (16, "", "zero: not built yet\n"),
+            (6, "", "zero: certificate: line 1: form\n"),
         ),
         (
             [pennies, pennies],
