@@ -1,5 +1,5 @@
 -- Why the words have no answer, from why a step gave none.
-use Rattle.std.proofs.Common.{inl, inr, Result, Ok, Err, IfErr, IfOk}
+use Rattle.std.proofs.Common.{inl, inr, Result, Ok, Err, IfErr, IfOk, IsErrAnd}
 use Rattle.zr_io.specs.Contents.{Bytes, Contents}
 use Rattle.zr_words.specs.Words.{Words}
 use Rattle.zero.specs.declared.text.Text.{Text}
@@ -25,3 +25,8 @@ if_err (Err e) P Q to h = to e h
 pub if_ok : {T E : Type 0} (r : Result T E) (P Q : T → Type 0) → ((x : T) → P x → Q x) → IfOk r P → IfOk r Q
 if_ok (Ok x) P Q to h = to x h
 if_ok (Err e) P Q to h = tt
+
+-- what stands of a result that is an error
+pub err_and : {T E : Type 0} (r : Result T E) (P Q : E → Type 0) → ((x : E) → P x → Q x) → IsErrAnd r P → IsErrAnd r Q
+err_and (Ok x) P Q to h = h
+err_and (Err e) P Q to h = to e h

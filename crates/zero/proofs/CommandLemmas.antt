@@ -48,7 +48,7 @@ of_solve words kind name (Solve game options, asks, is) = record {
   says = asks.form.says;
   texts_are = asks.action.0 ∙ ap (λ (n : Text). codes "solve" ∷ n ∷ []) is.0;
   value = subst (λ (k : Kind). IsValue asks.said kind_option (kind_name k))
-      (sym (ap (λ o. o.kind) asks.action.1) ∙ is.1) asks.form.options.kind;
+      (sym (ap (λ o. o.kind) asks.action.1) ∙ is.1) asks.form.chosen.kind;
 }
 of_solve words kind name (Check game cert, asks, is) = absurd is
 of_solve words kind name (Migrate game, asks, is) = absurd is
@@ -61,7 +61,7 @@ of_check words name cert (Check game other, asks, is) = (asks.options.kind, reco
   says = asks.form.says;
   texts_are = asks.action ∙ ap (λ (n : Text). codes "check" ∷ n ∷ other.now ∷ []) is.0
       ∙ ap (λ (n : Text). codes "check" ∷ name ∷ n ∷ []) is.1;
-  value = asks.form.options.kind;
+  value = asks.form.chosen.kind;
 })
 of_check words name cert (Migrate game, asks, is) = absurd is
 
@@ -73,7 +73,7 @@ of_migrate words name (Migrate game, asks, is) = (asks.options.kind, record {
   said = asks.said;
   says = asks.form.says;
   texts_are = asks.action ∙ ap (λ (n : Text). codes "migrate" ∷ n ∷ []) is;
-  value = asks.form.options.kind;
+  value = asks.form.chosen.kind;
 })
 
 -- ---- one thing

@@ -6,4 +6,5 @@ pub mod LineLemmas
 mod CauseLemmas
 mod TruthLemmas
 mod GameLemmas
+mod StatusLemmas
 mod ToldLemmas

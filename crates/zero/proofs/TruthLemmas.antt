@@ -3,9 +3,10 @@ use Rattle.std.proofs.Common.{◌≡◌, List, length, ◌∙◌}
 use Rattle.std.proofs.lemmas.List.{length-map}
 use Rattle.zr_base.specs.Points.{PointOf}
 use Rattle.zr_game.specs.Profiles.{Profile}
-use Rattle.zr_game.specs.Equilibria.{IsEquilibrium}
+use Rattle.zr_game.specs.Equilibria.{HasNoEquilibrium, IsEquilibrium}
 use Rattle.zr_game.specs.declared.kind.Kind.{Kind}
 use Rattle.zr_source.specs.Sources.{SourceOf}
+use Rattle.zr_source.specs.SourceEquilibria.{HasNoSourceEquilibrium}
 use Rattle.zr_source.specs.SourceForms.{IsSource}
 use Rattle.zr_follow.specs.Expansion.{expanded, expansion}
 use Rattle.zr_follow.proofs.Equilibria.{equilibria, kinds_base, none_alike}
@@ -27,6 +28,9 @@ module _ (source : SourceOf) (form : IsSource source) where
       (equilibria source form (expansion source) (expansion_is source) profile e.valid).0 e)
   true_of kind (EmptyVerdict i nodes) none =
       (none_alike source form (expansion source) (expansion_is source) kind).0 none
+
+  pub none_of : (kind : Kind) → HasNoEquilibrium (expansion source) kind → HasNoSourceEquilibrium source kind
+  none_of kind none = (none_alike source form (expansion source) (expansion_is source) kind).0 none
 
   pub found_of : (points : List PointOf) → IsFirstEquilibrium (expansion source) points → IsFound source points
   found_of points first = record {

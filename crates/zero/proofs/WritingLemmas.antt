@@ -6,9 +6,9 @@ use Rattle.zr_io.specs.Contents.{Bytes}
 use Rattle.zero.specs.declared.refusal.CertFlaw.{CertFlaw}
 use Rattle.zero.specs.declared.text.Text.{Text}
 use Rattle.zr_io.specs.Written.{Appends, AppendsPrefix}
-use Rattle.zr_read.specs.Faults.{fault_name}
-use Rattle.zr_read.specs.declared.fault.GameFault.{GameFault}
-use Rattle.zr_read.specs.declared.fault.GameFault.TheVariants.{NotJson, Format, Missing, Kind, NotWhole, TooBig, BadName, Twice, UnknownName, OwnCross, Count}
+use Rattle.zr_value.specs.Faults.{fault_name}
+use Rattle.zr_value.specs.declared.fault.GameFault.{GameFault}
+use Rattle.zr_value.specs.declared.fault.GameFault.TheVariants.{NotJson, Format, Missing, Kind, NotWhole, TooBig, BadName, Twice, UnknownName, PairLow, OwnCross, Count}
 use Rattle.zero.specs.Messages.{excess, message, fault_line, fault_text, flaw_line, flaw_name, long_line}
 use Rattle.zr_io.proofs.AppendsLemmas.{appends_append, appends_prefix_append}
 
@@ -65,6 +65,7 @@ fault_text_else TooBig path h = refl
 fault_text_else BadName path h = refl
 fault_text_else Twice path h = refl
 fault_text_else UnknownName path h = refl
+fault_text_else PairLow path h = refl
 fault_text_else OwnCross path h = refl
 fault_text_else Count path h = refl
 

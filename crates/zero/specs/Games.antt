@@ -1,6 +1,6 @@
 -- The games that texts stand for, and what is at fault in other texts.
 use Rattle.std.specs.Prelude.{◌≡◌, ℕ, ◌++◌, codes, ◌⊎◌}
-use Rattle.zr_form.specs.Numbers.{decimal}
+use Rattle.std.specs.Fmt.{decimal}
 use Rattle.zr_game.specs.Games.{game_of}
 use Rattle.zr_io.specs.Contents.{Bytes}
 use Rattle.zr_source.specs.Sources.{IsLeader, LeaderOf, SourceOf}

@@ -1,12 +1,12 @@
-use Rattle.std.proofs.Common.{rules, ◌≡◌, IsOk, List, ℕ, sym, subst}
+use Rattle.std.proofs.Common.{rules, ◌≡◌, IsOk, sym, subst}
+use Rattle.zr_game.specs.Games.{game_of}
 use Rattle.zr_game.specs.Players.{GameOf}
 use Rattle.zr_cert.specs.Listed.{cert_of}
 use Rattle.zr_check.specs.Right.{IsRightCert}
 use Rattle.zr_check.specs.Truth.{IsTrueVerdict}
 use Rattle.zr_check.specs.WideSteps.{HasWideStep}
-use Rattle.zr_follow.specs.Expansion.{expansion}
 use Rattle.zr_read.specs.Texts.{source_of}
-use Rattle.zero.specs.Answers.{IsAccepted, IsFlawed, accepted_text}
+use Rattle.zero.specs.Answers.{IsAccepted, accepted_text}
 use Rattle.zero.specs.Refusals.{IsCause}
 use Rattle.zero.specs.declared.refusal.Refusal.TheVariants.{NoMemory}
 use Rattle.zero.proofs.CauseLemmas.{if_err, if_ok}
@@ -14,7 +14,22 @@ use Rattle.zero.proofs.TruthLemmas.{true_of}
 use Rattle.zero.proofs.check.accept.Goals as goal
 
 pub returns-in-Ok-check_cert-clause-ok : goal.returns-in-Ok-check_cert-clause-ok
-returns-in-Ok-check_cert-clause-ok c = ?
+returns-in-Ok-check_cert-clause-ok c =
+    let source = source_of c.args.reading.now.source in
+    let cert = cert_of c.in_ok-cert.cert in
+    let passed : IsOk c.check_cert.result = search rules in
+    let right = c.check_cert.ensures.exact.0 passed in
+    let truth : IsTrueVerdict (game_of c.args.reading.now.game) cert.kind cert.verdict = search rules in
+    let here = subst (λ (g : GameOf). IsRightCert g cert) c.requires.game right.0 in
+    let narrow = subst (λ (g : GameOf). HasWideStep g cert → ⊥) c.requires.game right.1 in
+    let there = subst (λ (g : GameOf). IsTrueVerdict g cert.kind cert.verdict) c.requires.game truth in
+    if_ok c.accepted.result (λ text. text.items ≡ accepted_text cert) (λ text. IsAccepted source c.args.bytes.now text.items)
+    (λ text e. record {
+      cert = cert;
+      shown = record { is_text = c.in_ok-cert.ensures.ok; right = here; narrow = narrow };
+      truth = true_of source c.args.reading.now.source.sound cert.kind cert.verdict there;
+      answer = e;
+    }) c.accepted.ensures.ok
 
 pub returns-in_err-cert-clause-err : goal.returns-in_err-cert-clause-err
 returns-in_err-cert-clause-err c = λ words contents asked.

@@ -1,7 +1,10 @@
 use Rattle.std.proofs.Common.{refl, sym, ◌∙◌, subst, inl}
 use Rattle.zr_words.specs.Words.{spelled}
 use Rattle.zero.specs.Refusals.{line_of}
-use Rattle.zero.specs.Told.{IsCheckStatus, IsGameStatus}
+use Rattle.zero.specs.Told.{IsCheckStatus, IsGameStatus, IsStatus}
+use Rattle.zero.proofs.CauseLemmas.{names_of_answer}
+use Rattle.zero.proofs.CommandLemmas.{named_or_faulty, named_or_unbuilt}
+use Rattle.zero.proofs.StatusLemmas.{faulty_status, unbuilt_status, usage_of}
 use Rattle.zero.proofs.LineLemmas.{fault_of, flaw_of, long_of, unbuilt_of, unread_of}
 use Rattle.zero.proofs.ToldLemmas.{answer_status, refusal_status, told_answer, told_refusal}
 use Rattle.zero.proofs.WritingLemmas.{line_written}
@@ -38,7 +41,37 @@ returns-in-Err-clause-unbuilt g c = λ sixteen.
     unbuilt_of (spelled c.args.words.now) (g.S.Shelf.contents c.args.shelf.now) _ _ c.in-Err.refusal c.in-Err.ensures.err c.in-Err.ensures.taken (sym c.status.ensures ∙ sixteen)
 
 pub returns-in-Err-clause-lacks : goal.returns-in-Err-clause-lacks
-returns-in-Err-clause-lacks g c = λ name named lacks. c.status.ensures ∙ c.in-Err.ensures.lacks name named lacks
+returns-in-Err-clause-lacks g c = λ name named lacks.
+    subst (IsStatus 3) (sym c.status.ensures) (c.in-Err.ensures.lacks name named lacks)
+
+pub returns-in-Err-clause-usage : goal.returns-in-Err-clause-usage
+returns-in-Err-clause-usage g c = λ two.
+    usage_of (spelled c.args.words.now) (g.S.Shelf.contents c.args.shelf.now) c.in-Err.refusal c.in-Err.ensures.err (sym c.status.ensures ∙ two)
+
+pub returns-in-Err-clause-faulty_words : goal.returns-in-Err-clause-faulty_words
+returns-in-Err-clause-faulty_words g c = λ faulty.
+    subst (IsStatus 2) (sym c.status.ensures) (faulty_status (spelled c.args.words.now) (g.S.Shelf.contents c.args.shelf.now) c.in-Err.refusal c.in-Err.ensures.err faulty)
+
+pub returns-in-Err-clause-unbuilt_command : goal.returns-in-Err-clause-unbuilt_command
+returns-in-Err-clause-unbuilt_command g c = λ unbuilt.
+    subst (IsStatus 16) (sym c.status.ensures) (unbuilt_status (spelled c.args.words.now) (g.S.Shelf.contents c.args.shelf.now) c.in-Err.refusal c.in-Err.ensures.err unbuilt)
+
+pub returns-in-Ok-clause-lacks : goal.returns-in-Ok-clause-lacks
+returns-in-Ok-clause-lacks g c = λ name named lacks. absurd (c.in-Ok.ensures.lacks name named lacks)
+
+pub returns-in-Ok-clause-faulty_words : goal.returns-in-Ok-clause-faulty_words
+returns-in-Ok-clause-faulty_words g c = λ faulty.
+    let words = spelled c.args.words.now in
+    let text = c.in-Ok.ensures.ok in
+    let names = names_of_answer words (g.S.Shelf.contents c.args.shelf.now) text.0 text.1 in
+    absurd (named_or_faulty words names.0 names.1 faulty)
+
+pub returns-in-Ok-clause-unbuilt_command : goal.returns-in-Ok-clause-unbuilt_command
+returns-in-Ok-clause-unbuilt_command g c = λ unbuilt.
+    let words = spelled c.args.words.now in
+    let text = c.in-Ok.ensures.ok in
+    let names = names_of_answer words (g.S.Shelf.contents c.args.shelf.now) text.0 text.1 in
+    absurd (named_or_unbuilt words names.0 names.1 unbuilt)
 
 pub returns-in-Ok-clause-told_game : goal.returns-in-Ok-clause-told_game
 returns-in-Ok-clause-told_game g c = λ bytes told shelf out.

@@ -33,11 +33,11 @@ returns-in-Faulty-clause-err g c =
 
 pub returns-in-NoMemory-clause-ok : goal.returns-in-NoMemory-clause-ok
 returns-in-NoMemory-clause-ok g c =
-    ok_same (g.E.Sink.written c.args.err.now) (g.E.Sink.written c.put_all-in-NoMemory.new.sink) _ _ c.put_all-in-NoMemory.result (ap line_of (sym c.in-NoMemory.is)) c.put_all-in-NoMemory.ensures.ok
+    ok_same (g.E.Sink.written c.args.err.now) (g.E.Sink.written c.put_all.new.sink) _ _ c.put_all.result (ap line_of (sym c.in-NoMemory.is)) c.put_all.ensures.ok
 
 pub returns-in-NoMemory-clause-err : goal.returns-in-NoMemory-clause-err
 returns-in-NoMemory-clause-err g c =
-    err_same (g.E.Sink.written c.args.err.now) (g.E.Sink.written c.put_all-in-NoMemory.new.sink) _ _ c.put_all-in-NoMemory.result (ap line_of (sym c.in-NoMemory.is)) c.put_all-in-NoMemory.ensures.err
+    err_same (g.E.Sink.written c.args.err.now) (g.E.Sink.written c.put_all.new.sink) _ _ c.put_all.result (ap line_of (sym c.in-NoMemory.is)) c.put_all.ensures.err
 
 pub returns-in-WriteFault-clause-ok : goal.returns-in-WriteFault-clause-ok
 returns-in-WriteFault-clause-ok g c =

@@ -1,0 +1,64 @@
+-- The status of words that ask for nothing, or for what isn't built.
+use Rattle.std.proofs.Common.{◌≡◌, ℕ, refl, inl, inr, arith}
+use Rattle.zr_io.specs.Contents.{Bytes, Contents}
+use Rattle.zr_words.specs.Words.{Words}
+use Rattle.zr_words.specs.Commands.{IsFaulty}
+use Rattle.zero.specs.declared.refusal.Refusal.{Refusal}
+use Rattle.zero.specs.declared.refusal.Refusal.TheVariants.{Usage, CannotRead, TooLong, Faulty, Flawed, NoMemory, WriteFault, Unbuilt, UnbuiltGame}
+use Rattle.zero.specs.declared.text.Text.{Text}
+use Rattle.zero.specs.declared.text.Text.TheVariants.{Game, Cert}
+use Rattle.zero.specs.Commands.{IsGameName, IsUnbuiltCommand}
+use Rattle.zero.specs.Reads.{IsDue}
+use Rattle.zero.specs.Refusals.{IsCause, status_of}
+use Rattle.zero.specs.Told.{IsStatus}
+use Rattle.zero.proofs.CommandLemmas.{named_or_faulty, named_or_unbuilt}
+
+module _ (words : Words) (contents : Contents) where
+  -- a text that is due is named, or its certificate's game is
+  due_name : (text : Text) (name : Bytes) → IsDue words contents text name → (game : Bytes) × IsGameName words game
+  due_name Game name due = (name, due)
+  due_name Cert name due = (due.1.game_name, inr (inl (name, due.1.check)))
+
+  -- words that ask for nothing have the status 2
+  pub faulty_status : (refusal : Refusal) → IsCause words contents refusal → IsFaulty words
+      → IsStatus 2 (status_of refusal)
+  faulty_status (Usage help) h faulty = inl refl
+  faulty_status (CannotRead text name) h faulty =
+      let due = due_name text name.now h in absurd (named_or_faulty words due.0 due.1 faulty)
+  faulty_status (TooLong text name) h faulty =
+      let due = due_name text name.now h.due in absurd (named_or_faulty words due.0 due.1 faulty)
+  faulty_status (Faulty fault path) h faulty = absurd (named_or_faulty words h.name h.named faulty)
+  faulty_status (Flawed number flaw) h faulty =
+      absurd (named_or_faulty words h.asked.due.game_name (inr (inl (h.asked.name, h.asked.due.check))) faulty)
+  faulty_status NoMemory h faulty = inr refl
+  faulty_status WriteFault h faulty = absurd (named_or_faulty words h.0 h.1 faulty)
+  faulty_status Unbuilt h faulty = absurd (faulty h.1.0 h.1.1)
+  faulty_status UnbuiltGame h faulty = absurd (named_or_faulty words h.name (inl h.solve) faulty)
+
+  -- those that ask for what isn't built have the status 16
+  pub unbuilt_status : (refusal : Refusal) → IsCause words contents refusal → IsUnbuiltCommand words
+      → IsStatus 16 (status_of refusal)
+  unbuilt_status (Usage help) h unbuilt = absurd (h unbuilt.1.0 unbuilt.1.1)
+  unbuilt_status (CannotRead text name) h unbuilt =
+      let due = due_name text name.now h in absurd (named_or_unbuilt words due.0 due.1 unbuilt)
+  unbuilt_status (TooLong text name) h unbuilt =
+      let due = due_name text name.now h.due in absurd (named_or_unbuilt words due.0 due.1 unbuilt)
+  unbuilt_status (Faulty fault path) h unbuilt = absurd (named_or_unbuilt words h.name h.named unbuilt)
+  unbuilt_status (Flawed number flaw) h unbuilt =
+      absurd (named_or_unbuilt words h.asked.due.game_name (inr (inl (h.asked.name, h.asked.due.check))) unbuilt)
+  unbuilt_status NoMemory h unbuilt = inr refl
+  unbuilt_status WriteFault h unbuilt = absurd (named_or_unbuilt words h.0 h.1 unbuilt)
+  unbuilt_status Unbuilt h unbuilt = inl refl
+  unbuilt_status UnbuiltGame h unbuilt = absurd (named_or_unbuilt words h.name (inl h.solve) unbuilt)
+
+  -- the status 2 comes of words that ask for nothing
+  pub usage_of : (refusal : Refusal) → IsCause words contents refusal → status_of refusal ≡ 2 → IsFaulty words
+  usage_of (Usage help) h e = h
+  usage_of (CannotRead text name) h e = absurd (omega (arith, e))
+  usage_of (TooLong text name) h e = absurd (omega (arith, e))
+  usage_of (Faulty fault path) h e = absurd (omega (arith, e))
+  usage_of (Flawed number flaw) h e = absurd (omega (arith, e))
+  usage_of NoMemory h e = absurd (omega (arith, e))
+  usage_of WriteFault h e = absurd (omega (arith, e))
+  usage_of Unbuilt h e = absurd (omega (arith, e))
+  usage_of UnbuiltGame h e = absurd (omega (arith, e))
