@@ -38,7 +38,7 @@ one_text : (words : Words) (xs ys : List Text) (k l : Kind) → AreTexts words x
 one_text words xs ys k l a b =
     let same = one_saying words a.said b.said a.says b.says in
     let kinds = one_value b.said kind_option (kind_name k) (kind_name l)
-        (subst (λ (s : List Said). IsValue s kind_option (kind_name k)) same a.value) b.value in
+    (subst (λ (s : List Said). IsValue s kind_option (kind_name k)) same a.value) b.value in
     (sym a.texts_are ∙ ap texts_of same ∙ b.texts_are, one_kind k l kinds)
 
 of_solve : (words : Words) (kind : Kind) (name : Bytes) → IsSolve words kind name
@@ -56,25 +56,31 @@ of_solve words kind name (Migrate game, asks, is) = absurd is
 of_check : (words : Words) (name cert : Bytes) → IsCheck words name cert
     → (kind : Kind) × AreTexts words (codes "check" ∷ name ∷ cert ∷ []) kind
 of_check words name cert (Solve game options, asks, is) = absurd is
-of_check words name cert (Check game other, asks, is) = (asks.options.kind, record {
-  said = asks.said;
-  says = asks.form.says;
-  texts_are = asks.action ∙ ap (λ (n : Text). codes "check" ∷ n ∷ other.now ∷ []) is.0
-      ∙ ap (λ (n : Text). codes "check" ∷ name ∷ n ∷ []) is.1;
-  value = asks.form.chosen.kind;
-})
+of_check words name cert (Check game other, asks, is) = (
+  asks.options.kind,
+  record {
+    said = asks.said;
+    says = asks.form.says;
+    texts_are = asks.action ∙ ap (λ (n : Text). codes "check" ∷ n ∷ other.now ∷ []) is.0
+        ∙ ap (λ (n : Text). codes "check" ∷ name ∷ n ∷ []) is.1;
+    value = asks.form.chosen.kind;
+  },
+)
 of_check words name cert (Migrate game, asks, is) = absurd is
 
 of_migrate : (words : Words) (name : Bytes) → IsMigrate words name
     → (kind : Kind) × AreTexts words (codes "migrate" ∷ name ∷ []) kind
 of_migrate words name (Solve game options, asks, is) = absurd is
 of_migrate words name (Check game cert, asks, is) = absurd is
-of_migrate words name (Migrate game, asks, is) = (asks.options.kind, record {
-  said = asks.said;
-  says = asks.form.says;
-  texts_are = asks.action ∙ ap (λ (n : Text). codes "migrate" ∷ n ∷ []) is;
-  value = asks.form.chosen.kind;
-})
+of_migrate words name (Migrate game, asks, is) = (
+  asks.options.kind,
+  record {
+    said = asks.said;
+    says = asks.form.says;
+    texts_are = asks.action ∙ ap (λ (n : Text). codes "migrate" ∷ n ∷ []) is;
+    value = asks.form.chosen.kind;
+  },
+)
 
 -- ---- one thing
 
@@ -82,7 +88,7 @@ module _ (words : Words) where
   pub one_solve : (k l : Kind) (g h : Bytes) → IsSolve words k g → IsSolve words l h → (g ≡ h) × (k ≡ l)
   one_solve k l g h p q =
       let e = one_text words (codes "solve" ∷ g ∷ []) (codes "solve" ∷ h ∷ []) k l
-          (of_solve words k g p) (of_solve words l h q) in
+      (of_solve words k g p) (of_solve words l h q) in
       let f = e.0 in
       (cc, e.1)
 
@@ -104,7 +110,7 @@ module _ (words : Words) where
   no_solve g c kind name p q =
       let a = of_check words g c p in
       let e = (one_text words (codes "check" ∷ g ∷ c ∷ []) (codes "solve" ∷ name ∷ []) a.0 kind a.1
-          (of_solve words kind name q)).0 in
+      (of_solve words kind name q)).0 in
       let n : 3 ≡ 2 = ap length e in
       omega (arith, n)
 
@@ -120,7 +126,7 @@ module _ (words : Words) where
   not_both kind g name p q =
       let b = of_migrate words name q in
       let e = (one_text words (codes "solve" ∷ g ∷ []) (codes "migrate" ∷ name ∷ []) kind b.0
-          (of_solve words kind g p) b.1).0 in
+      (of_solve words kind g p) b.1).0 in
       let actions : codes "solve" ≡ codes "migrate" = cc in
       let n : 5 ≡ 7 = ap length actions in
       omega (arith, n)

@@ -29,7 +29,7 @@ game_or_fault bytes source fault path text (inr count) =
 -- a game that bytes stand for keeps the rules
 pub source_of_text : (bytes : Bytes) (source : SourceOf) → IsGameText bytes source → IsSource source
 source_of_text bytes source text =
-    (source_is_right text.stands.value source text.stands.content).0
+    source_is_right text.stands.value source text.stands.content
 
 -- so does the game with its followers' conditions
 pub game_of_text : (bytes : Bytes) (source : SourceOf) → IsGameText bytes source

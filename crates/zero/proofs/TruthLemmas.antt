@@ -23,9 +23,10 @@ module _ (source : SourceOf) (form : IsSource source) where
   pub true_of : (kind : Kind) (verdict : VerdictOf) → IsTrueVerdict (expansion source) kind verdict
       → IsTrueOf source kind verdict
   true_of kind (ProfileVerdict mixtures bounds) (of_kind, e) =
-      let profile = profile_with mixtures in
-      ((kinds_base source profile (as_many profile e) kind).0 of_kind,
-      (equilibria source form (expansion source) (expansion_is source) profile e.valid).0 e)
+      let profile = profile_with mixtures in (
+        (kinds_base source profile (as_many profile e) kind).0 of_kind,
+        (equilibria source form (expansion source) (expansion_is source) profile e.valid).0 e,
+      )
   true_of kind (EmptyVerdict i nodes) none =
       (none_alike source form (expansion source) (expansion_is source) kind).0 none
 

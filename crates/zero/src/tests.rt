@@ -1,3 +1,4 @@
+mod faults;
 mod followers;
 
 use crate::run::zero_run;

@@ -2,7 +2,8 @@ use crate::tests::{check_over, compare, run_over};
 use std::test::Fail;
 
 /// The leader pays 2x - 3f, with x at most 2; its follower takes the greatest f that is at most x.
-const GREATEST: &str = r#"{"format":"zero-game/1","players":[{"name":"L","vars":[{"name":"x","up":2}],"cost":[["x",2],["f",-3]],
+const GREATEST: &str =
+    r#"{"format":"zero-game/1","players":[{"name":"L","vars":[{"name":"x","up":2}],"cost":[["x",2],["f",-3]],
 "followers":[{"vars":["f"],"rows":[{"terms":[["f",1],["x",-1]],"le":0}],"cost":[["f",-1]]}]}]}"#;
 
 const GREATEST_CERT: &str = "zero-cert/1
@@ -17,7 +18,8 @@ end
 
 /// The leader pays x - f. Its follower has f at most 1 and no cost, so each f from 0 to 1 is one of
 /// its best answers, and the leader has f = 1 at x = 0: it pays -1, and no choice pays less.
-const FREE: &str = r#"{"format":"zero-game/1","players":[{"name":"L","vars":[{"name":"x","up":2}],"cost":[["x",1],["f",-1]],
+const FREE: &str =
+    r#"{"format":"zero-game/1","players":[{"name":"L","vars":[{"name":"x","up":2}],"cost":[["x",1],["f",-1]],
 "followers":[{"vars":["f"],"rows":[{"terms":[["f",1]],"le":1}]}]}]}"#;
 
 const FREE_CERT: &str = "zero-cert/1
@@ -32,7 +34,8 @@ end
 
 /// The leader pays -x, with x at most 3. Its follower takes the least f of at least x, and f is at
 /// most 1: at x above 1 it has no answer, so the leader has x = 1, with f = 1, and pays -1.
-const UNANSWERED: &str = r#"{"format":"zero-game/1","players":[{"name":"L","vars":[{"name":"x","up":3}],"cost":[["x",-1]],
+const UNANSWERED: &str =
+    r#"{"format":"zero-game/1","players":[{"name":"L","vars":[{"name":"x","up":3}],"cost":[["x",-1]],
 "followers":[{"vars":["f"],"rows":[{"terms":[["f",1]],"le":1},{"terms":[["x",1],["f",-1]],"le":0}],"cost":[["f",1]]}]}]}"#;
 
 const UNANSWERED_CERT: &str = "zero-cert/1
@@ -165,7 +168,11 @@ fn worse_answers_are_refused(rt: HostRuntime) -> Result<(), Fail> {
 fn too_many_conditions_are_refused(rt: HostRuntime) -> Result<(), Fail> {
     for line in ["check g c", "migrate g", "solve g --kind pure"] {
         let ran = run_over(rt.alloc(), line, &[("g", LARGE.as_bytes())], [None; 3])?;
-        compare(&rt, &ran, (5, "", "zero: game: Count /players/0/followers\n"));
+        compare(
+            &rt,
+            &ran,
+            (5, "", "zero: game: Count /players/0/followers\n"),
+        );
     }
     Ok(())
 }

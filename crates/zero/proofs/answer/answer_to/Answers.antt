@@ -16,8 +16,8 @@ pub returns-in_err-game-clause-lacks : goal.returns-in_err-game-clause-lacks
 returns-in_err-game-clause-lacks g c = λ name named lacks.
     let words = spelled c.args.words.now in
     let h : IsStatus 3 (status_of c.in_err-game.field-0.0) = ⊎_elim
-        (λ e. inr (ap status_of e))
-        (λ f. absurd (named_or_faulty words name named f.1)) c.in_err-game.ensures.err in
+    (λ e. inr (ap status_of e))
+    (λ f. absurd (named_or_faulty words name named f.1)) c.in_err-game.ensures.err in
     search (rules, h)
 
 -- ---- a pure equilibrium
@@ -25,14 +25,20 @@ returns-in_err-game-clause-lacks g c = λ name named lacks.
 pub returns-in-Pure-clause-err : goal.returns-in-Pure-clause-err
 returns-in-Pure-clause-err g c =
     let words = spelled c.args.words.now in
-    c.solve.ensures.err words (Solve c.in-Solve.game c.in-Solve.options,
-    subst (Asks words) c.in-Solve.is c.in_ok-game.ensures.ok, (refl, c.in-Pure.is))
+    c.solve.ensures.err words (
+      Solve c.in-Solve.game c.in-Solve.options,
+      subst (Asks words) c.in-Solve.is c.in_ok-game.ensures.ok,
+      (refl, c.in-Pure.is),
+    )
 
 pub returns-in-Pure-clause-lacks : goal.returns-in-Pure-clause-lacks
 returns-in-Pure-clause-lacks g c = λ name named lacks.
     let words = spelled c.args.words.now in
-    let asks : IsSolve words Pure c.in-Solve.game.now = (Solve c.in-Solve.game c.in-Solve.options,
-        subst (Asks words) c.in-Solve.is c.in_ok-game.ensures.ok, (refl, c.in-Pure.is)) in
+    let asks : IsSolve words Pure c.in-Solve.game.now = (
+      Solve c.in-Solve.game c.in-Solve.options,
+      subst (Asks words) c.in-Solve.is c.in_ok-game.ensures.ok,
+      (refl, c.in-Pure.is),
+    ) in
     let same = one_name words name c.in-Solve.game.now named (inl asks) in
     let here = subst (λ (n : Bytes). Lacks (g.S.Shelf.contents c.args.shelf.now) n) same lacks in
     err_and c.solve.result (λ refusal. status_of refusal ≡ 3) (λ refusal. IsStatus 3 (status_of refusal))
@@ -42,29 +48,46 @@ returns-in-Pure-clause-lacks g c = λ name named lacks.
 
 pub returns-in-Mixed-clause-err : goal.returns-in-Mixed-clause-err
 returns-in-Mixed-clause-err g c =
-    let words = spelled c.args.words.now in
-    (c.in-Solve.game.now, (Solve c.in-Solve.game c.in-Solve.options,
-    subst (Asks words) c.in-Solve.is c.in_ok-game.ensures.ok, (refl, c.in-Mixed.is)))
+    let words = spelled c.args.words.now in (
+      c.in-Solve.game.now,
+      (
+        Solve c.in-Solve.game c.in-Solve.options,
+        subst (Asks words) c.in-Solve.is c.in_ok-game.ensures.ok,
+        (refl, c.in-Mixed.is),
+      ),
+    )
 
 pub returns-in-Mixed-clause-lacks : goal.returns-in-Mixed-clause-lacks
 returns-in-Mixed-clause-lacks g c = λ name named lacks.
     let words = spelled c.args.words.now in
-    absurd (named_or_unbuilt words name named (c.in-Solve.game.now, (Solve c.in-Solve.game c.in-Solve.options,
-    subst (Asks words) c.in-Solve.is c.in_ok-game.ensures.ok, (refl, c.in-Mixed.is))))
+    absurd (named_or_unbuilt words name named (
+      c.in-Solve.game.now,
+      (
+        Solve c.in-Solve.game c.in-Solve.options,
+        subst (Asks words) c.in-Solve.is c.in_ok-game.ensures.ok,
+        (refl, c.in-Mixed.is),
+      ),
+    ))
 
 -- ---- a check
 
 pub returns-in-Check-clause-err : goal.returns-in-Check-clause-err
 returns-in-Check-clause-err g c =
     let words = spelled c.args.words.now in
-    c.check.ensures.err words (Check c.in-Check.game c.in-Check.cert,
-    subst (Asks words) c.in-Check.is c.in_ok-game.ensures.ok, (refl, refl))
+    c.check.ensures.err words (
+      Check c.in-Check.game c.in-Check.cert,
+      subst (Asks words) c.in-Check.is c.in_ok-game.ensures.ok,
+      (refl, refl),
+    )
 
 pub returns-in-Check-clause-lacks : goal.returns-in-Check-clause-lacks
 returns-in-Check-clause-lacks g c = λ name named lacks.
     let words = spelled c.args.words.now in
-    let asks : IsCheck words c.in-Check.game.now c.in-Check.cert.now = (Check c.in-Check.game c.in-Check.cert,
-        subst (Asks words) c.in-Check.is c.in_ok-game.ensures.ok, (refl, refl)) in
+    let asks : IsCheck words c.in-Check.game.now c.in-Check.cert.now = (
+      Check c.in-Check.game c.in-Check.cert,
+      subst (Asks words) c.in-Check.is c.in_ok-game.ensures.ok,
+      (refl, refl),
+    ) in
     let same = one_name words name c.in-Check.game.now named (inr (inl (c.in-Check.cert.now, asks))) in
     let here = subst (λ (n : Bytes). Lacks (g.S.Shelf.contents c.args.shelf.now) n) same lacks in
     err_and c.check.result (λ refusal. status_of refusal ≡ 3) (λ refusal. IsStatus 3 (status_of refusal))
@@ -75,14 +98,20 @@ returns-in-Check-clause-lacks g c = λ name named lacks.
 pub returns-in-Migrate-clause-err : goal.returns-in-Migrate-clause-err
 returns-in-Migrate-clause-err g c =
     let words = spelled c.args.words.now in
-    c.migrate.ensures.err words (Migrate c.in-Migrate.game,
-    subst (Asks words) c.in-Migrate.is c.in_ok-game.ensures.ok, refl)
+    c.migrate.ensures.err words (
+      Migrate c.in-Migrate.game,
+      subst (Asks words) c.in-Migrate.is c.in_ok-game.ensures.ok,
+      refl,
+    )
 
 pub returns-in-Migrate-clause-lacks : goal.returns-in-Migrate-clause-lacks
 returns-in-Migrate-clause-lacks g c = λ name named lacks.
     let words = spelled c.args.words.now in
-    let asks : IsMigrate words c.in-Migrate.game.now = (Migrate c.in-Migrate.game,
-        subst (Asks words) c.in-Migrate.is c.in_ok-game.ensures.ok, refl) in
+    let asks : IsMigrate words c.in-Migrate.game.now = (
+      Migrate c.in-Migrate.game,
+      subst (Asks words) c.in-Migrate.is c.in_ok-game.ensures.ok,
+      refl,
+    ) in
     let same = one_name words name c.in-Migrate.game.now named (inr (inr asks)) in
     let here = subst (λ (n : Bytes). Lacks (g.S.Shelf.contents c.args.shelf.now) n) same lacks in
     err_and c.migrate.result (λ refusal. status_of refusal ≡ 3) (λ refusal. IsStatus 3 (status_of refusal))

@@ -23,8 +23,11 @@ returns-in-Ok-Some c =
     let here = subst (λ (g : GameOf). IsFirstEquilibrium g points) c.requires.game first in
     if_ok c.profile_text.result (λ text. string_bytes text ≡ profile_text (map surely c.as_slice.result.now))
     (λ text. IsShortAnswer source (string_bytes text))
-    (λ text e. inl (points, found_of source c.args.reading.now.source.sound points here,
-    e ∙ ap (λ (ps : List PointOf). profile_text (map surely ps)) c.as_slice.ensures.value))
+    (λ text e. inl (
+      points,
+      found_of source c.args.reading.now.source.sound points here,
+      e ∙ ap (λ (ps : List PointOf). profile_text (map surely ps)) c.as_slice.ensures.value,
+    ))
     c.profile_text.ensures
 
 pub returns-in-Ok-None : goal.returns-in-Ok-None
