@@ -12,13 +12,16 @@ use Rattle.zr_follow.specs.Expansion.{expanded, expansion}
 use Rattle.zr_follow.proofs.Equilibria.{equilibria, kinds_base, none_alike}
 use Rattle.zr_follow.proofs.Relations.{expansion_is}
 use Rattle.zr_trial.specs.First.{IsFirstEquilibrium, pure_profile}
-use Rattle.zr_cert.specs.Certs.{EmptyVerdict, ProfileVerdict, VerdictOf, profile_with}
+use Rattle.zr_cert.specs.Certs.{BoxVerdict, CoverVerdict, EmptyVerdict, ProfileVerdict, VerdictOf, profile_with}
 use Rattle.zr_check.specs.Truth.{IsTrueVerdict}
 use Rattle.zero.specs.Answers.{IsFound, IsTrueOf}
 
 module _ (source : SourceOf) (form : IsSource source) where
   as_many : (profile : Profile) → IsEquilibrium (expansion source) profile → length profile ≡ length source
   as_many profile e = e.valid.len ∙ length-map source expanded
+
+  pub none_of : (kind : Kind) → HasNoEquilibrium (expansion source) kind → HasNoSourceEquilibrium source kind
+  none_of kind none = (none_alike source form (expansion source) (expansion_is source) kind).0 none
 
   pub true_of : (kind : Kind) (verdict : VerdictOf) → IsTrueVerdict (expansion source) kind verdict
       → IsTrueOf source kind verdict
@@ -27,11 +30,9 @@ module _ (source : SourceOf) (form : IsSource source) where
         (kinds_base source profile (as_many profile e) kind).0 of_kind,
         (equilibria source form (expansion source) (expansion_is source) profile e.valid).0 e,
       )
-  true_of kind (EmptyVerdict i nodes) none =
-      (none_alike source form (expansion source) (expansion_is source) kind).0 none
-
-  pub none_of : (kind : Kind) → HasNoEquilibrium (expansion source) kind → HasNoSourceEquilibrium source kind
-  none_of kind none = (none_alike source form (expansion source) (expansion_is source) kind).0 none
+  true_of kind (CoverVerdict covers named proof) none = none_of kind none
+  true_of kind (EmptyVerdict i nodes) none = none_of kind none
+  true_of kind (BoxVerdict nodes) none = none_of kind none
 
   pub found_of : (points : List PointOf) → IsFirstEquilibrium (expansion source) points → IsFound source points
   found_of points first = record {

@@ -1,5 +1,5 @@
 -- What an answer says, and why there is none.
-use Rattle.std.specs.Prelude.{◌≡◌, ℕ, List, ◌++◌, length, Option, codes, ◌⊎◌}
+use Rattle.std.specs.Prelude.{◌≡◌, ℕ, true, List, ◌++◌, length, Option, codes, ◌⊎◌}
 use Rattle.zr_base.specs.Points.{PointOf}
 use Rattle.zr_game.specs.Players.{GameOf}
 use Rattle.zr_game.specs.Profiles.{IsOfKind}
@@ -13,11 +13,11 @@ use Rattle.zr_follow.specs.Expansion.{expansion}
 use Rattle.zr_follow.specs.BaseParts.{base_profile}
 use Rattle.zr_value.specs.declared.fault.GameFault.{GameFault}
 use Rattle.zr_read.specs.Texts.{StandsFor}
-use Rattle.zr_write.specs.Texts.{migrated_text}
+use Rattle.zr_write.specs.Written.{IsWritten}
 use Rattle.zr_trial.specs.Reach.{IsWithinReach}
 use Rattle.zr_trial.specs.First.{IsFirstEquilibrium, pure_profile}
 use Rattle.zr_cert.specs.declared.fault.CertFault.TheVariants as checks
-use Rattle.zr_cert.specs.Certs.{CertOf, EmptyVerdict, ProfileVerdict, VerdictOf, profile_with}
+use Rattle.zr_cert.specs.Certs.{BoxVerdict, CertOf, CoverVerdict, EmptyVerdict, ProfileVerdict, VerdictOf, profile_with}
 use Rattle.zr_check.specs.Right.{IsRightCert}
 use Rattle.zr_check.specs.Checks.{CertRefused}
 use Rattle.zr_check.specs.WideSteps.{HasWideStep}
@@ -68,7 +68,9 @@ kind_name Mixed = codes "mixed"
 
 abbrev pub verdict_name : VerdictOf → Bytes
 verdict_name (ProfileVerdict mixtures bounds) = codes "profile"
+verdict_name (CoverVerdict covers named proof) = codes "none"
 verdict_name (EmptyVerdict i nodes) = codes "none"
+verdict_name (BoxVerdict nodes) = codes "none"
 
 abbrev pub accepted_text : CertOf → Bytes
 accepted_text c = line (codes "accepted " ++ kind_name c.kind ++ codes " " ++ verdict_name c.verdict)
@@ -86,7 +88,9 @@ abbrev pub IsTrueOf : SourceOf → Kind → VerdictOf → Type 0
 IsTrueOf source kind (ProfileVerdict mixtures bounds) =
     IsOfKind kind (base_profile source (profile_with mixtures))
     × IsSourceEquilibrium source (base_profile source (profile_with mixtures))
+IsTrueOf source kind (CoverVerdict covers named proof) = HasNoSourceEquilibrium source kind
 IsTrueOf source kind (EmptyVerdict i nodes) = HasNoSourceEquilibrium source kind
+IsTrueOf source kind (BoxVerdict nodes) = HasNoSourceEquilibrium source kind
 
 -- the bytes are of a certificate that is right for the game with its followers' conditions, its
 -- verdict is true of the game as it was read, and the text says so
@@ -116,7 +120,7 @@ pub record IsChecked (words : Words) (contents : Contents) (text : Bytes) : Type
 pub record IsSameGame (bytes text : Bytes) : Type 0 where
   pub source : SourceOf
   pub game : IsGameText bytes source
-  pub canonical : text ≡ migrated_text source
+  pub canonical : IsWritten true source text
   pub stands : StandsFor text source
 
 -- the words ask for the text in today's form of the game that was read

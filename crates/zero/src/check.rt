@@ -112,6 +112,6 @@ fn name_of_verdict(verdict: &Verdict) -> &'static str
 {
     match verdict {
         Verdict::Profile { .. } => "profile",
-        Verdict::NoneEmpty { .. } => "none",
+        Verdict::NoneCover { .. } | Verdict::NoneEmpty { .. } | Verdict::NoneBoxes { .. } => "none",
     }
 }
