@@ -1,4 +1,4 @@
-ghost use Rattle.std.specs.Prelude.{◌≡◌, ◌↔◌, ◌-◌, ◌^◌, IsTrue, map, min};
+ghost use Rattle.std.specs.Prelude.{◌≡◌, ◌↔◌, ◌-◌, ◌^◌, ◌≤◌, IsTrue, map, min};
 ghost use Rattle.std.specs.List.{All};
 ghost use Rattle.zr_game.specs.declared.kind.Kind.{Kind};
 ghost use Rattle.zr_mix.specs.Mixtures.{part_of};
@@ -8,6 +8,7 @@ ghost use Rattle.zr_cert.specs.Forms.{IsBoundForm, IsBoundNode, IsCert, IsEmptyN
 ghost use Rattle.zr_cert.specs.Lines.{bound_lines, mixture_lines, sum_lines, verdict_lines};
 
 use crate::cert::{Bound, Verdict};
+use crate::cover::{is_cover_proof, lines_of_covers, lines_of_named};
 use zr_mix::{Part, Strategy};
 use zr_tree::Node;
 
@@ -15,7 +16,7 @@ use zr_tree::Node;
 const LINE_LIMIT: usize = 1 << 32;
 
 /// What a text names or counts is below this.
-const COUNT_LIMIT: usize = 1 << 32;
+pub(crate) const COUNT_LIMIT: usize = 1 << 32;
 
 /// Whether the verdict makes a certificate for so many players, of either kind.
 pub(crate) fn is_cert(players: u32, verdict: &Verdict) -> bool
@@ -27,8 +28,10 @@ pub(crate) fn is_cert(players: u32, verdict: &Verdict) -> bool
         && lines_of_verdict(verdict) < LINE_LIMIT - 4
 }
 
-/// Whether the verdict keeps the rules for so many players, but for the number of its lines.
+/// Whether the verdict keeps the rules for so many players, at most 16, but for the number of its
+/// lines.
 fn is_verdict(players: usize, verdict: &Verdict) -> bool
+    requires { players ≤ 16 }
     ensures { IsTrue result ↔ IsVerdictForm players (verdict_of verdict.now) }
 {
     match verdict {
@@ -37,18 +40,25 @@ fn is_verdict(players: usize, verdict: &Verdict) -> bool
                 && are_strategies(&profile.strategies)
                 && are_bounds(bounds)
         }
+        Verdict::NoneCover {
+            covers,
+            named,
+            proof,
+        } => is_cover_proof(players, covers, named, proof),
         Verdict::NoneEmpty { player, tree } => {
             // What is read fits its type: any `u32` may be the player's number.
             let _player = *player;
             are_empty_nodes(&tree.nodes)
         }
+        // A box tree keeps all rules by itself.
+        Verdict::NoneBoxes { tree: _ } => true,
     }
 }
 
-fn are_counts(players: usize, strategies: usize, bounds: usize) -> bool
-    ensures { IsTrue result ↔ ((strategies ≡ players) × (bounds ≡ players)) }
+pub(crate) fn are_counts(players: usize, first: usize, second: usize) -> bool
+    ensures { IsTrue result ↔ ((first ≡ players) × (second ≡ players)) }
 {
-    strategies == players && bounds == players
+    first == players && second == players
 }
 
 fn are_strategies(strategies: &[Strategy]) -> bool
@@ -166,7 +176,15 @@ fn lines_of_verdict(verdict: &Verdict) -> usize
         Verdict::Profile { profile, bounds } => {
             lines_of_strategies(&profile.strategies).saturating_add(lines_of_bounds(bounds))
         }
+        Verdict::NoneCover {
+            covers,
+            named,
+            proof,
+        } => lines_of_covers(covers).saturating_add(lines_of_named(named).saturating_add(
+            proof.nodes.len(),
+        )),
         Verdict::NoneEmpty { player: _, tree } => tree.nodes.len(),
+        Verdict::NoneBoxes { tree } => tree.nodes.len(),
     }
 }
 
