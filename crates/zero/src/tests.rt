@@ -315,7 +315,7 @@ fn changed_certificates_are_refused(rt: HostRuntime) -> Result<(), Fail> {
         (1, "zero-cert/2", "zero: certificate: line 1: form\n"),
         (2, "kind pure 2", "zero: certificate: line 6: wrong\n"),
         (2, "kind mixed 17", "zero: certificate: line 2: number\n"),
-        (3, "verdict none cover", "zero: certificate: line 3: form\n"),
+        (3, "verdict none cover", "zero: certificate: line 4: form\n"),
         (
             4,
             "player 0 total 2 parts 4294967295",

@@ -18,10 +18,10 @@ use Rattle.zr_tree.specs.Steps.{IsWideForRow}
 use Rattle.zr_tree.specs.Trees.{TreeOf, preorder}
 use Rattle.zr_tree.proofs.Descent.{right_if_refuted}
 use Rattle.zr_tree.proofs.PassLaws.{passes_if}
-use Rattle.zr_cert.specs.Certs.{BoundOf, CertOf, EmptyVerdict, MixtureOf, ProfileVerdict, VerdictOf, profile_with}
+use Rattle.zr_cert.specs.Certs.{BoundOf, BoxVerdict, CertOf, CoverVerdict, EmptyVerdict, MixtureOf, ProfileVerdict, VerdictOf, profile_with}
 use Rattle.zr_cert.specs.Forms.{IsBoundForm, IsCert, IsMixtureForm, IsVerdictForm}
 use Rattle.zr_check.specs.Right.{AreRightStrategies, IsRightBound, IsRightCert, IsRightHead, IsRightProfile, IsRightVerdict}
-use Rattle.zr_check.specs.Parts.{IsWidePart, StrategiesPass, mean_list}
+use Rattle.zr_check.specs.Parts.{IsOfLength, IsWidePart, StrategiesPass, mean_list}
 use Rattle.zr_check.specs.Bounds.{BoundPasses, BoundsPass, IsCostMade, TreePasses, all_means, cost_steps, no_point}
 use Rattle.zr_check.specs.Checks.{CertPasses, HeadPasses, ProfilePasses, VerdictPasses}
 use Rattle.zr_check.specs.WideSteps.{HasWidePart, HasWideStep, HeadIsWide, IsWideTree, VerdictIsWide}
@@ -58,9 +58,9 @@ alone_if kind mixtures of_kind i m found pure =
     all_found (λ (other : MixtureOf). length other.parts ≡ 1) mixtures i m (All-of_map (λ (other : MixtureOf). other.parts) (λ (parts : Strategy). length parts ≡ 1) mixtures (subst (λ (k : Kind). IsOfKind k (profile_with mixtures)) pure of_kind)) found
 
 module _ (game : GameOf) (kind : Kind) (mixtures : List MixtureOf) (right : AreRightStrategies game kind mixtures) (narrow : HasWidePart game mixtures → ⊥) where
-  narrow_part : (i : ℕ) (player : PlayerOf) → IsPlayer game i player → (m : MixtureOf) → slice_get mixtures i ≡ Some m → (k : ℕ) (part : Part) → slice_get m.parts k ≡ Some part → IsWidePart player m k part → ⊥
-  narrow_part i player is m found k part here wide =
-      narrow (record { i = i; player = player; is_player = is; mixture = m; is_mixture = found; k = k; part = part; is_part = here; wide = wide })
+  narrow_part : (i : ℕ) (player : PlayerOf) → IsPlayer game i player → (m : MixtureOf) → slice_get mixtures i ≡ Some m → (k : ℕ) (part : Part) → slice_get m.parts k ≡ Some part → IsOfLength player part → IsWidePart player m k part → ⊥
+  narrow_part i player is m found k part here len wide =
+      narrow (record { i = i; player = player; is_player = is; mixture = m; is_mixture = found; k = k; part = part; is_part = here; of_length = len; wide = wide })
 
   strategy_valid : (i : ℕ) (player : PlayerOf) → IsPlayer game i player → (m : MixtureOf) → slice_get mixtures i ≡ Some m → IsStrategy player m.parts
   strategy_valid i player is m found =
@@ -71,7 +71,7 @@ module _ (game : GameOf) (kind : Kind) (mixtures : List MixtureOf) (right : AreR
       let s = strategy_valid i player is m found in
       let feasible = all_found (λ (other : Part). IsFeasible player other.point) m.parts k part s.points here in (
         feasible.len,
-        narrow_part i player is m found k part here,
+        narrow_part i player is m found k part here feasible.len,
         record {
           feasible = feasible;
           alone = λ pure. let one = alone_if kind mixtures right.of_kind i m found pure in let h = slice_get_within m.parts k part here in omega (arith, one, h);
@@ -115,6 +115,8 @@ module _ (game : GameOf) (form : IsGame game) (kind : Kind) where
   verdict_passes : (verdict : VerdictOf) → IsVerdictForm (length game) verdict → IsRightVerdict game kind verdict → (VerdictIsWide game verdict → ⊥) → VerdictPasses game kind verdict
   verdict_passes (ProfileVerdict mixtures bounds) v right narrow =
       (strategies_pass game kind mixtures right.strategies (λ w. narrow (inl w)), bounds_pass game form kind mixtures bounds v.0 v.1 v.3 right narrow)
+  verdict_passes (CoverVerdict covers named proof) v right narrow = right
+  verdict_passes (BoxVerdict nodes) v right narrow = right
   verdict_passes (EmptyVerdict i nodes) v right narrow =
       let player = right.0 in
       let proof = right.2 in
@@ -128,11 +130,15 @@ cert_passes game form c cert right narrow =
 head_right : (game : GameOf) (kind : Kind) (verdict : VerdictOf) → IsVerdictForm (length game) verdict → ProfilePasses game kind verdict → IsRightHead game kind verdict × (HeadIsWide game verdict → ⊥)
 head_right game kind (ProfileVerdict mixtures bounds) v pass =
     (right_strategies game kind mixtures v.0 v.1 pass, λ w. (pass w.i w.player w.is_player w.mixture w.is_mixture w.k w.part w.is_part).1 w.wide)
+head_right game kind (CoverVerdict covers named proof) v pass = absurd pass
 head_right game kind (EmptyVerdict i nodes) v pass = absurd pass
+head_right game kind (BoxVerdict nodes) v pass = absurd pass
 
 head_passes : (game : GameOf) (kind : Kind) (verdict : VerdictOf) → IsRightHead game kind verdict → (HeadIsWide game verdict → ⊥) → ProfilePasses game kind verdict
 head_passes game kind (ProfileVerdict mixtures bounds) right narrow = strategies_pass game kind mixtures right narrow
+head_passes game kind (CoverVerdict covers named proof) right narrow = absurd right
 head_passes game kind (EmptyVerdict i nodes) right narrow = absurd right
+head_passes game kind (BoxVerdict nodes) right narrow = absurd right
 
 -- the head of a certificate passes exactly where it is right and has no step that is too wide
 pub head_is : (game : GameOf) (c : CertOf) → IsCert c → HeadPasses game c ↔ ((c.players ≡ length game) × IsRightHead game c.kind c.verdict × (HeadIsWide game c.verdict → ⊥))

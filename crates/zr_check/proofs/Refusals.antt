@@ -17,7 +17,7 @@ use Rattle.zr_tree.proofs.Forests.{same_tree}
 use Rattle.zr_tree.proofs.PassLaws.{exclusive, one_fault}
 use Rattle.zr_cert.specs.declared.fault.CertFault.{CertFault}
 use Rattle.zr_cert.specs.declared.fault.CertFault.TheVariants.{Bad, Wide as TooWide}
-use Rattle.zr_cert.specs.Certs.{BoundOf, CertOf, EmptyVerdict, MixtureOf, ProfileVerdict, VerdictOf}
+use Rattle.zr_cert.specs.Certs.{BoundOf, BoxVerdict, CertOf, CoverVerdict, EmptyVerdict, MixtureOf, ProfileVerdict, VerdictOf}
 use Rattle.zr_check.specs.Firsts.{AllPass, FirstRefused}
 use Rattle.zr_check.specs.Parts.{IsOfLength, IsPartRight, IsWidePart, MixturePasses, MixtureRefused, PartPasses, PartRefused, PlayerPasses, PlayerRefused, StrategiesPass, StrategiesRefused, player_line}
 use Rattle.zr_check.specs.Bounds.{BoundPasses, BoundRefused, BoundsPass, BoundsRefused, CostPasses, CostRefused, IsCostMade, IsWideCost, TreePasses, TreeRefused, at_line, cost_line, no_point}
@@ -170,22 +170,30 @@ module _ (game : GameOf) (kind : Kind) where
   verdict_apart : (verdict : VerdictOf) (fault : CertFault) → VerdictPasses game kind verdict → VerdictRefused game kind verdict fault → ⊥
   verdict_apart (ProfileVerdict mixtures bounds) fault p r =
       ⊎_elim (λ (a : StrategiesRefused game kind mixtures fault). strategies_apart kind mixtures game fault p.0 a) (λ (a : StrategiesPass game kind mixtures × BoundsRefused game mixtures bounds fault). bounds_apart game mixtures bounds fault p.1 a.1) r
+  verdict_apart (CoverVerdict covers named proof) fault p r = p
+  verdict_apart (BoxVerdict nodes) fault p r = p
   verdict_apart (EmptyVerdict i nodes) fault p r =
       ⊎_elim (λ a. a.0 (slice_get_within game i p.0 p.1)) (λ a. tree_apart p.0 (no_point p.0) nodes 4 fault p.2 (subst (λ (player : PlayerOf). TreeRefused player (no_point player) nodes 4 fault) (one game i a.0 p.0 a.1 p.1) a.2)) r
 
   verdict_one : (verdict : VerdictOf) (f g : CertFault) → VerdictRefused game kind verdict f → VerdictRefused game kind verdict g → f ≡ g
   verdict_one (ProfileVerdict mixtures bounds) f g =
       either_one (StrategiesRefused game kind mixtures) (λ x. StrategiesPass game kind mixtures × BoundsRefused game mixtures bounds x) (λ x y a b. strategies_apart kind mixtures game x b.0 a) f g (strategies_one kind mixtures game f g) (λ a b. bounds_one game mixtures bounds f g a.1 b.1)
+  verdict_one (CoverVerdict covers named proof) f g = λ r s. r ∙ sym s
+  verdict_one (BoxVerdict nodes) f g = λ r s. r ∙ sym s
   verdict_one (EmptyVerdict i nodes) f g =
       either_one (λ x. (i < length game → ⊥) × (x ≡ Bad 3)) (λ x. (player : PlayerOf) × IsPlayer game i player × TreeRefused player (no_point player) nodes 4 x) (λ x y a b. a.0 (slice_get_within game i b.0 b.1)) f g (λ a b. a.1 ∙ sym b.1) (λ a b. tree_one b.0 (no_point b.0) nodes 4 f g (subst (λ (player : PlayerOf). TreeRefused player (no_point player) nodes 4 f) (one game i a.0 b.0 a.1 b.1) a.2) b.2)
 
   profile_apart : (verdict : VerdictOf) (fault : CertFault) → ProfilePasses game kind verdict → ProfileRefused game kind verdict fault → ⊥
   profile_apart (ProfileVerdict mixtures bounds) fault p r = strategies_apart kind mixtures game fault p r
+  profile_apart (CoverVerdict covers named proof) fault p r = p
   profile_apart (EmptyVerdict i nodes) fault p r = p
+  profile_apart (BoxVerdict nodes) fault p r = p
 
   profile_one : (verdict : VerdictOf) (f g : CertFault) → ProfileRefused game kind verdict f → ProfileRefused game kind verdict g → f ≡ g
   profile_one (ProfileVerdict mixtures bounds) f g r s = strategies_one kind mixtures game f g r s
+  profile_one (CoverVerdict covers named proof) f g r s = r ∙ sym s
   profile_one (EmptyVerdict i nodes) f g r s = r ∙ sym s
+  profile_one (BoxVerdict nodes) f g r s = r ∙ sym s
 
 module _ (game : GameOf) (c : CertOf) where
   pub cert_apart : (fault : CertFault) → CertPasses game c → CertRefused game c fault → ⊥

@@ -15,7 +15,7 @@ use Rattle.zr_tree.specs.Trees.{TreeOf, preorder}
 use Rattle.zr_tree.proofs.Descent.{holds_at_root, none_at_root}
 use Rattle.zr_mix.specs.Checks.{HasClaims}
 use Rattle.zr_mix.proofs.Checking.{enough}
-use Rattle.zr_cert.specs.Certs.{BoundOf, CertOf, EmptyVerdict, MixtureOf, ProfileVerdict, VerdictOf, profile_with}
+use Rattle.zr_cert.specs.Certs.{BoundOf, BoxVerdict, CertOf, CoverVerdict, EmptyVerdict, MixtureOf, ProfileVerdict, VerdictOf, profile_with}
 use Rattle.zr_check.specs.Right.{IsRightCert, IsRightProfile, IsRightVerdict, IsEmptyTree}
 use Rattle.zr_check.specs.Truth.{IsTrueVerdict}
 
@@ -50,6 +50,8 @@ module _ (game : GameOf) (form : IsGame game) where
   pub true_if_right : (kind : Kind) (verdict : VerdictOf) → IsRightVerdict game kind verdict → IsTrueVerdict game kind verdict
   true_if_right kind (ProfileVerdict mixtures bounds) right =
       (right.strategies.of_kind, enough game form (profile_with mixtures) right.strategies.valid (claims kind mixtures bounds right))
+  true_if_right kind (CoverVerdict covers named proof) right = absurd right
+  true_if_right kind (BoxVerdict nodes) right = absurd right
   true_if_right kind (EmptyVerdict i nodes) right = none_if_empty kind i right.0 right.1 nodes right.2
 
   -- a right certificate's verdict is true

@@ -5,18 +5,24 @@ use Rattle.zr_game.specs.Forms.{IsPlayer}
 use Rattle.zr_game.specs.declared.kind.Kind.{Kind}
 use Rattle.zr_cert.specs.declared.fault.CertFault.{CertFault}
 use Rattle.zr_cert.specs.declared.fault.CertFault.TheVariants.{Bad}
-use Rattle.zr_cert.specs.Certs.{CertOf, EmptyVerdict, ProfileVerdict, VerdictOf}
+use Rattle.zr_cert.specs.Certs.{BoxVerdict, CertOf, CoverVerdict, EmptyVerdict, ProfileVerdict, VerdictOf}
 use Rattle.zr_check.specs.Parts.{StrategiesPass, StrategiesRefused}
 use Rattle.zr_check.specs.Bounds.{BoundsPass, BoundsRefused, TreePasses, TreeRefused, no_point}
 
+-- Of covers and boxes no certificate passes so far.
 abbrev pub VerdictPasses : GameOf → Kind → VerdictOf → Type 0
 VerdictPasses game kind (ProfileVerdict mixtures bounds) = StrategiesPass game kind mixtures × BoundsPass game mixtures bounds
+VerdictPasses game kind (CoverVerdict covers named proof) = ⊥
+VerdictPasses game kind (BoxVerdict nodes) = ⊥
 VerdictPasses game kind (EmptyVerdict i nodes) = (player : PlayerOf) × IsPlayer game i player × TreePasses player (no_point player) nodes
 
--- the lines after the kind's, in their order; the tree of an empty player begins at line 4
+-- the lines after the kind's, in their order; the tree of an empty player begins at line 4, and the verdicts that aren't
+-- checked so far stand at line 3
 abbrev pub VerdictRefused : GameOf → Kind → VerdictOf → CertFault → Type 0
 VerdictRefused game kind (ProfileVerdict mixtures bounds) fault =
     StrategiesRefused game kind mixtures fault ⊎ (StrategiesPass game kind mixtures × BoundsRefused game mixtures bounds fault)
+VerdictRefused game kind (CoverVerdict covers named proof) fault = fault ≡ Bad 3
+VerdictRefused game kind (BoxVerdict nodes) fault = fault ≡ Bad 3
 VerdictRefused game kind (EmptyVerdict i nodes) fault =
     ((i < length game → ⊥) × (fault ≡ Bad 3))
     ⊎ ((player : PlayerOf) × IsPlayer game i player × TreeRefused player (no_point player) nodes 4 fault)
@@ -33,11 +39,15 @@ CertRefused game c fault =
 -- the verdict is a profile whose strategies pass
 abbrev pub ProfilePasses : GameOf → Kind → VerdictOf → Type 0
 ProfilePasses game kind (ProfileVerdict mixtures bounds) = StrategiesPass game kind mixtures
+ProfilePasses game kind (CoverVerdict covers named proof) = ⊥
 ProfilePasses game kind (EmptyVerdict i nodes) = ⊥
+ProfilePasses game kind (BoxVerdict nodes) = ⊥
 
 abbrev pub ProfileRefused : GameOf → Kind → VerdictOf → CertFault → Type 0
 ProfileRefused game kind (ProfileVerdict mixtures bounds) fault = StrategiesRefused game kind mixtures fault
+ProfileRefused game kind (CoverVerdict covers named proof) fault = fault ≡ Bad 3
 ProfileRefused game kind (EmptyVerdict i nodes) fault = fault ≡ Bad 3
+ProfileRefused game kind (BoxVerdict nodes) fault = fault ≡ Bad 3
 
 -- the same of the number of players, and of the lines of the players and their parts alone
 abbrev pub HeadPasses : GameOf → CertOf → Type 0

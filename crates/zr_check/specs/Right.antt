@@ -11,7 +11,7 @@ use Rattle.zr_tree.specs.Nodes.{NodeOf}
 use Rattle.zr_tree.specs.Trees.{TreeOf, preorder}
 use Rattle.zr_tree.specs.Right.{IsRefuted, IsRight}
 use Rattle.zr_mix.specs.Checks.{IsClaimOf}
-use Rattle.zr_cert.specs.Certs.{BoundOf, CertOf, EmptyVerdict, MixtureOf, ProfileVerdict, VerdictOf, profile_with}
+use Rattle.zr_cert.specs.Certs.{BoundOf, BoxVerdict, CertOf, CoverVerdict, EmptyVerdict, MixtureOf, ProfileVerdict, VerdictOf, profile_with}
 
 -- the nodes are those of a tree that proves the row on all points of the player
 pub record IsRowTree (player : PlayerOf) (row : Bound) (nodes : List NodeOf) : Type 0 where
@@ -45,9 +45,12 @@ pub record IsRightProfile (game : GameOf) (kind : Kind) (mixtures : List Mixture
   pub bounds_of : (i : ℕ) (player : PlayerOf) → IsPlayer game i player
       → (bound : BoundOf) × (slice_get bounds i ≡ Some bound) × IsRightBound player i (profile_with mixtures) bound
 
+-- A verdict of covers or of boxes isn't shown by a certificate so far.
 abbrev pub IsRightVerdict : GameOf → Kind → VerdictOf → Type 0
 IsRightVerdict game kind (ProfileVerdict mixtures bounds) = IsRightProfile game kind mixtures bounds
+IsRightVerdict game kind (CoverVerdict covers named proof) = ⊥
 IsRightVerdict game kind (EmptyVerdict i nodes) = (player : PlayerOf) × IsPlayer game i player × IsEmptyTree player nodes
+IsRightVerdict game kind (BoxVerdict nodes) = ⊥
 
 -- the certificate is for as many players as the game has, and its verdict is right
 pub record IsRightCert (game : GameOf) (c : CertOf) : Type 0 where
@@ -57,4 +60,6 @@ pub record IsRightCert (game : GameOf) (c : CertOf) : Type 0 where
 -- the verdict is a profile of right strategies, whatever its bounds
 abbrev pub IsRightHead : GameOf → Kind → VerdictOf → Type 0
 IsRightHead game kind (ProfileVerdict mixtures bounds) = AreRightStrategies game kind mixtures
+IsRightHead game kind (CoverVerdict covers named proof) = ⊥
 IsRightHead game kind (EmptyVerdict i nodes) = ⊥
+IsRightHead game kind (BoxVerdict nodes) = ⊥

@@ -5,7 +5,7 @@ use Rattle.zr_game.specs.Players.{GameOf}
 use Rattle.zr_tree.specs.Nodes.{NodeOf}
 use Rattle.zr_tree.specs.Scratches.{Places, most_pairs, most_vars}
 use Rattle.zr_mix.specs.Steps.{var_total}
-use Rattle.zr_cert.specs.Certs.{CertOf, EmptyVerdict, ProfileVerdict, VerdictOf}
+use Rattle.zr_cert.specs.Certs.{BoxVerdict, CertOf, CoverVerdict, EmptyVerdict, ProfileVerdict, VerdictOf}
 
 -- a scratch for trees, and places for the means of all players, a slope and a claim
 pub record RoomOf : Type 0 where
@@ -14,10 +14,12 @@ pub record RoomOf : Type 0 where
   pub slopes : ℕ
   pub claims : ℕ
 
--- the trees of a verdict
+-- the trees of a verdict whose nodes are checked
 abbrev pub trees_of : VerdictOf → List (List NodeOf)
 trees_of (ProfileVerdict mixtures bounds) = map (λ b. b.tree) bounds
+trees_of (CoverVerdict covers named proof) = []
 trees_of (EmptyVerdict i nodes) = nodes ∷ []
+trees_of (BoxVerdict nodes) = []
 
 -- the places are enough for the certificate's check
 pub record HasRoom (game : GameOf) (c : CertOf) (room : RoomOf) : Type 0 where

@@ -8,11 +8,11 @@ use Rattle.zr_game.specs.Profiles.{Part}
 use Rattle.zr_tree.specs.Nodes.{NodeOf}
 use Rattle.zr_tree.specs.Trees.{TreeOf, preorder}
 use Rattle.zr_tree.specs.Steps.{HasWideProof}
-use Rattle.zr_cert.specs.Certs.{BoundOf, CertOf, EmptyVerdict, MixtureOf, ProfileVerdict, VerdictOf}
-use Rattle.zr_check.specs.Parts.{IsWidePart}
+use Rattle.zr_cert.specs.Certs.{BoundOf, BoxVerdict, CertOf, CoverVerdict, EmptyVerdict, MixtureOf, ProfileVerdict, VerdictOf}
+use Rattle.zr_check.specs.Parts.{IsOfLength, IsWidePart}
 use Rattle.zr_check.specs.Bounds.{IsCostMade, IsWideCost, no_point}
 
--- at a part's line
+-- at a part's line, whose point has a number for each variable
 pub record HasWidePart (game : GameOf) (mixtures : List MixtureOf) : Type 0 where
   pub i : ℕ
   pub player : PlayerOf
@@ -22,6 +22,7 @@ pub record HasWidePart (game : GameOf) (mixtures : List MixtureOf) : Type 0 wher
   pub k : ℕ
   pub part : Part
   pub is_part : slice_get mixture.parts k ≡ Some part
+  pub of_length : IsOfLength player part
   pub wide : IsWidePart player mixture k part
 
 -- at a cost line
@@ -47,6 +48,8 @@ pub record HasWideTree (game : GameOf) (mixtures : List MixtureOf) (bounds : Lis
 
 abbrev pub VerdictIsWide : GameOf → VerdictOf → Type 0
 VerdictIsWide game (ProfileVerdict mixtures bounds) = HasWidePart game mixtures ⊎ HasWideCost game mixtures ⊎ HasWideTree game mixtures bounds
+VerdictIsWide game (CoverVerdict covers named proof) = ⊥
+VerdictIsWide game (BoxVerdict nodes) = ⊥
 VerdictIsWide game (EmptyVerdict i nodes) = (player : PlayerOf) × IsPlayer game i player × IsWideTree player (no_point player) nodes
 
 -- at some line
@@ -56,4 +59,6 @@ HasWideStep game c = VerdictIsWide game c.verdict
 -- at some line of the players and their parts
 abbrev pub HeadIsWide : GameOf → VerdictOf → Type 0
 HeadIsWide game (ProfileVerdict mixtures bounds) = HasWidePart game mixtures
+HeadIsWide game (CoverVerdict covers named proof) = ⊥
 HeadIsWide game (EmptyVerdict i nodes) = ⊥
+HeadIsWide game (BoxVerdict nodes) = ⊥

@@ -27,8 +27,9 @@ use zr_tree::Tree;
 ///
 /// Line 2 has the number of players. Under a profile the lines of the players and their parts are
 /// tested, and then the players' costs and trees; under an empty player, its number at line 3 and
-/// its tree. Where no line is refused the certificate is right, no step of its check is too wide,
-/// and its verdict is true of the game. `room` has places for this certificate; it keeps them.
+/// its tree. A verdict of covers or of boxes isn't checked so far and is refused at line 3. Where no
+/// line is refused the certificate is right, no step of its check is too wide, and its verdict is
+/// true of the game. `room` has places for this certificate; it keeps them.
 pub fn check_cert(game: &Game, cert: &Cert, room: &mut Room) -> Result<(), CertFault>
     requires { HasRoom (game_of game.now) (cert_of cert.now) room.old }
     ensures ok { OnOk result (CertPasses (game_of game.now) (cert_of cert.now)) }
@@ -51,7 +52,13 @@ pub fn check_cert(game: &Game, cert: &Cert, room: &mut Room) -> Result<(), CertF
             &mut room.means,
             &mut room.bench,
         ),
+        Verdict::NoneCover {
+            covers: _,
+            named: _,
+            proof: _,
+        } => Err(CertFault::Bad(3)),
         Verdict::NoneEmpty { player, tree } => check_empty(game, *player, tree, &mut room.bench),
+        Verdict::NoneBoxes { tree: _ } => Err(CertFault::Bad(3)),
     }
 }
 
@@ -76,7 +83,13 @@ pub fn check_profile(game: &Game, cert: &Cert, room: &mut Room) -> Result<(), Ce
         Verdict::Profile { profile, bounds: _ } => {
             check_head(game, cert.kind, &profile.strategies, &mut room.means)
         }
+        Verdict::NoneCover {
+            covers: _,
+            named: _,
+            proof: _,
+        } => Err(CertFault::Bad(3)),
         Verdict::NoneEmpty { player: _, tree: _ } => Err(CertFault::Bad(3)),
+        Verdict::NoneBoxes { tree: _ } => Err(CertFault::Bad(3)),
     }
 }
 

@@ -101,13 +101,19 @@ fn greatest_vars(players: &[Player]) -> usize
     most
 }
 
-/// The greatest number of nodes of a tree.
+/// The greatest number of nodes of a tree that is checked.
 fn greatest_tree(verdict: &Verdict) -> usize
     ensures { All (λ nodes. length nodes ≤ result) (trees_of (verdict_of verdict.now)) }
 {
     match verdict {
         Verdict::Profile { profile: _, bounds } => greatest_bound(bounds),
         Verdict::NoneEmpty { player: _, tree } => tree.nodes.len(),
+        Verdict::NoneCover {
+            covers: _,
+            named: _,
+            proof: _,
+        }
+        | Verdict::NoneBoxes { tree: _ } => 0,
     }
 }
 

@@ -16,7 +16,8 @@ use Rattle.zr_text.specs.Code.{cost_numbers}
 use Rattle.zr_text.specs.Fits.{is_lowest}
 use Rattle.zr_text.specs.Reader.{cost_at}
 use Rattle.zr_text.proofs.Players.{cost_others}
-use Rattle.zr_text.proofs.Limits.{above_zero, lowest_tells, narrow_told, weight_told}
+use Rattle.zr_lines.proofs.Limits.{above_zero, narrow_told, weight_told}
+use Rattle.zr_text.proofs.Lowest.{lowest_tells}
 
 -- a fraction is made of numbers without a common divisor
 pub cost_made : (num den : ℤ) (o : Option Fraction) → IsRatio num den → gcd_of (unsigned_abs num) (unsigned_abs den) ≡ 1 → (IsSome o ↔ IsRatio num den) → IfSome o IsLowest → IfSome o (λ f. IsSame f (ratio num den))

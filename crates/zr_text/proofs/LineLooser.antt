@@ -3,18 +3,14 @@ use Rattle.std.proofs.Common.{◌≡◌, ℕ, ℤ, Bool, true, false, List, ◌�
 use Rattle.std.specs.Prelude.{codes}
 use Rattle.zr_game.specs.declared.kind.Kind.{Kind}
 use Rattle.zr_game.specs.Profiles.{Part}
-use Rattle.zr_tree.specs.Nodes.{NodeOf}
 use Rattle.zr_form.specs.Reading.{Bytes}
 use Rattle.zr_form.proofs.Composing.{whole_looser}
-use Rattle.zr_text.specs.Fits.{FitsNode, FitsPart}
-use Rattle.zr_text.specs.Reader.{VerdictLine, OfProfile, OfEmpty, verdict_line_at, cost_at, kind_at, node_at, part_at, player_at}
+use Rattle.zr_text.specs.Fits.{FitsPart}
+use Rattle.zr_text.specs.Reader.{VerdictLine, OfProfile, OfCover, OfEmpty, OfBoxes, verdict_line_at, cost_at, kind_at, part_at, player_at}
 use Rattle.zr_text.proofs.Grammar.{FitsVerdictLine, FitsKind, verdict_line_more, verdict_line_whole, kind_others, kind_whole}
-use Rattle.zr_text.proofs.Looser.{node, part, positive, second}
-use Rattle.zr_text.proofs.Nodes.{first_field, node_whole, other_fields}
+use Rattle.zr_lines.proofs.Looser.{positive, second}
+use Rattle.zr_text.proofs.Looser.{part}
 use Rattle.zr_text.proofs.Players.{FitsCostHead, FitsHead, cost_others, cost_whole, head_others, part_others, part_whole, player_whole}
-
-pub node_looser : (refuting : Bool) (fs : List Bytes) (n : NodeOf) → node_at true refuting fs ≡ Some n → node_at false refuting fs ≡ Some n
-node_looser refuting = whole_looser (FitsNode true refuting) (FitsNode false refuting) (λ n. first_field n ∷ other_fields n) (node_at true refuting) (node_at false refuting) (node_whole true refuting) (node_whole false refuting) (node refuting)
 
 pub part_looser : (fs : List Bytes) (p : Part) → part_at true fs ≡ Some p → part_at false fs ≡ Some p
 part_looser = whole_looser (FitsPart true) (FitsPart false) (λ p. codes "part" ∷ part_others p) (part_at true) (part_at false) (part_whole true) (part_whole false) part
@@ -39,7 +35,9 @@ kind_looser = whole_looser (FitsKind true) (FitsKind false) (λ h. codes "kind" 
 
 said : (c : VerdictLine) → FitsVerdictLine true c → FitsVerdictLine false c
 said OfProfile f = tt
+said OfCover f = tt
 said (OfEmpty i) f = refl
+said OfBoxes f = tt
 
 pub verdict_line_looser : (fs : List Bytes) (c : VerdictLine) → verdict_line_at true fs ≡ Some c → verdict_line_at false fs ≡ Some c
 verdict_line_looser = whole_looser (FitsVerdictLine true) (FitsVerdictLine false) (λ c. codes "verdict" ∷ verdict_line_more c) (verdict_line_at true) (verdict_line_at false) (verdict_line_whole true) (verdict_line_whole false) said

@@ -139,5 +139,5 @@ trailing_fault bytes rest c n e some k =
 pub cert_made : (bytes : Bytes) (ls : List Bytes) (c : CertOf) → length bytes < 2 ^ 32 → cert_read true (lines_of bytes) ≡ Ok (c, ls) → IsCert c
 cert_made bytes ls c small e =
     let h = (cert_form true).exact.sound (lines_of bytes) ls c e in
-    let few : line_count c < 2 ^ 32 = omega (arith, as_many_lines c, ap length h.1, length-append (cert_lines c) ls, lines_fit bytes) in
+    let few : line_count c < 2 ^ 32 = omega (arith, as_many_lines c h.0, ap length h.1, length-append (cert_lines c) ls, lines_fit bytes) in
     cert_told c h.0 few

@@ -4,6 +4,7 @@ use Rattle.std.specs.Prelude.{codes}
 use Rattle.std.specs.List.{AllByRecursion}
 use Rattle.std.proofs.lemmas.Bool.{eq-eqb, eqb-true}
 use Rattle.zr_base.specs.Fractions.{ratio}
+use Rattle.zr_base.specs.Points.{PointOf}
 use Rattle.zr_base.specs.Lowest.{gcd_of}
 use Rattle.zr_game.specs.Profiles.{Part}
 use Rattle.zr_tree.specs.Nodes.{NodeOf}
@@ -17,40 +18,28 @@ use Rattle.zr_form.proofs.Fields.{ended_whole, integer_exact, integers_whole, jo
 use Rattle.zr_form.proofs.Forms.{IsForm, IsOne, ItemsFit, items_form, items_some, join_form, one_form}
 use Rattle.zr_form.proofs.Lines.{IsLine, IsWhole, line_form}
 use Rattle.zr_form.proofs.Words.{closes_all, closes_length, pair_exact, skip_exact}
-use Rattle.zr_text.specs.Fits.{FitsBound, FitsMixture, FitsPart, FitsTree, is_lowest}
-use Rattle.zr_text.specs.Reader.{bound_read, cost_at, part_at, part_with, player_at, strategy_read, tree_read}
-use Rattle.zr_text.specs.Spelling.{bound_lines, cost_line, node_line, part_line, player_line, point_fields, strategy_lines}
-use Rattle.zr_text.proofs.Nodes.{tree_form, tree_some}
+use Rattle.zr_lines.specs.declared.ends.Ends.TheVariants.{Proofs}
+use Rattle.zr_lines.specs.Fits.{FitsPoint, FitsTree}
+use Rattle.zr_lines.specs.Reader.{point_at, tree_read}
+use Rattle.zr_lines.specs.Spelling.{node_line, point_fields}
+use Rattle.zr_lines.proofs.Nodes.{tree_form, tree_some}
+use Rattle.zr_lines.proofs.Points.{point_whole}
+use Rattle.zr_text.specs.Fits.{FitsBound, FitsMixture, FitsPart, is_lowest}
+use Rattle.zr_text.specs.Reader.{bound_read, cost_at, part_at, player_at, strategy_read, weighing}
+use Rattle.zr_text.specs.Spelling.{bound_lines, cost_line, part_line, player_line, strategy_lines}
 
 -- ---- parts
 
 abbrev pub part_others : Part → List Bytes
 part_others part = signed part.weight ∷ point_fields part.point
 
-abbrev FitsStart : Bool → ℤ × (ℤ × ℤ) → Type 0
-FitsStart strict h = Passes (is_positive strict) h.0 × (Passes (is_positive strict) h.1.0 × Passes (is_narrow strict) h.1.1)
-
-abbrev start_fields : ℤ × (ℤ × ℤ) → List Bytes
-start_fields h = codes "part" ∷ ((signed h.0 ∷ []) ++ ((signed h.1.0 ∷ []) ++ (signed h.1.1 ∷ [])))
-
-part_parts : (strict : Bool) (weight den : ℤ) (nums : List ℤ) → FitsPart strict (record { weight = weight; point = record { num = nums; den = den } })
-    → (h : ℤ × (ℤ × ℤ)) × (rest : List ℤ) × FitsStart strict h × AllByRecursion (Passes (is_narrow strict)) rest
-    × (part_with h rest ≡ record { weight = weight; point = record { num = nums; den = den } }) × (codes "part" ∷ signed weight ∷ signed den ∷ map signed nums ≡ start_fields h ++ map signed rest)
-part_parts strict weight den [] f = absurd (let k : 0 < 0 = f.some in omega (arith, k))
-part_parts strict weight den (n ∷ nums) f = ((weight, (den, n)), nums, (f.weight, (f.den, f.nums.0)), f.nums.1, refl, refl)
-
-part_made : (strict : Bool) (h : ℤ × (ℤ × ℤ)) (rest : List ℤ) → FitsStart strict h → AllByRecursion (Passes (is_narrow strict)) rest
-    → FitsPart strict (part_with h rest) × (codes "part" ∷ part_others (part_with h rest) ≡ start_fields h ++ map signed rest)
-part_made strict h rest f g = (record { weight = f.0; den = f.1.0; some = omega arith; nums = (f.1.1, g) }, refl)
-
 pub part_whole : (strict : Bool) → IsWhole (FitsPart strict) (λ p. codes "part" ∷ part_others p) (part_at strict)
 unfolding part_at
 part_whole strict =
-    join_whole_form {X = ℤ × (ℤ × ℤ)} {Y = List ℤ} {Z = Part} part_with (FitsStart strict) start_fields
-    (skip (codes "part") (pair (integer_read (is_positive strict)) (pair (integer_read (is_positive strict)) (integer_read (is_narrow strict)))))
-    (λ h. AllByRecursion (Passes (is_narrow strict))) (λ h. map signed) (λ h. integers (is_narrow strict)) (FitsPart strict) (λ p. codes "part" ∷ part_others p)
-    (skip_exact (codes "part") refl _ _ _ (pair_exact _ _ _ _ _ _ (integer_exact (is_positive strict)) (pair_exact _ _ _ _ _ _ (integer_exact (is_positive strict)) (integer_exact (is_narrow strict)))))
-    (λ h f. integers_whole (is_narrow strict)) (part_made strict) (λ p f. part_parts strict p.weight p.point.den p.point.num f)
+    join_whole_form {X = ℤ} {Y = PointOf} {Z = Part} weighing (Passes (is_positive strict)) (λ weight. codes "part" ∷ signed weight ∷ []) (skip (codes "part") (integer_read (is_positive strict)))
+    (λ weight. FitsPoint strict) (λ weight. point_fields) (λ weight. point_at strict) (FitsPart strict) (λ p. codes "part" ∷ part_others p)
+    (skip_exact (codes "part") refl (Passes (is_positive strict)) (λ weight. signed weight ∷ []) (integer_read (is_positive strict)) (integer_exact (is_positive strict))) (λ weight f. point_whole strict)
+    (λ weight point f g. (record { weight = f; point = g }, refl)) (λ p f. (p.weight, p.point, f.weight, f.point, refl, refl))
 
 pub part_one : (strict : Bool) → IsOne IsLine (FitsPart strict) part_line (by_fields (part_at strict))
 part_one strict = line_form (FitsPart strict) (λ p. codes "part") part_others (part_at strict) (part_whole strict)
@@ -59,8 +48,8 @@ abbrev a_part : Part
 a_part = record { weight = pos 1; point = record { num = pos 0 ∷ []; den = pos 1 } }
 
 a_part_fits : (strict : Bool) → FitsPart strict a_part
-a_part_fits true = record { weight = refl; den = refl; some = omega arith; nums = (refl, tt) }
-a_part_fits false = record { weight = refl; den = refl; some = omega arith; nums = (refl, tt) }
+a_part_fits true = record { weight = refl; point = record { den = refl; some = omega arith; nums = (refl, tt) } }
+a_part_fits false = record { weight = refl; point = record { den = refl; some = omega arith; nums = (refl, tt) } }
 
 -- ---- strategies
 
@@ -139,24 +128,24 @@ a_cost_fits false i = ((eq-eqb i i refl, (refl, refl)), zero_is_lowest)
 abbrev bound_with : ℕ × (ℤ × ℤ) → List NodeOf → BoundOf
 bound_with h tree = record { cost = ratio h.1.0 h.1.1; tree = tree }
 
-bound_made : (strict : Bool) (i : ℕ) (h : ℕ × (ℤ × ℤ)) (tree : List NodeOf) → FitsCostHead strict i h → FitsTree strict false tree
+bound_made : (strict : Bool) (i : ℕ) (h : ℕ × (ℤ × ℤ)) (tree : List NodeOf) → FitsCostHead strict i h → FitsTree strict Proofs tree
     → FitsBound strict (bound_with h tree) × (bound_lines i (bound_with h tree) ≡ (line_with (codes "cost" ∷ cost_others h) ∷ []) ++ map node_line tree)
 bound_made strict i h tree f g =
     (record { cost = record { num = f.0.1.0; den = f.0.1.1; lowest = f.1 }; tree = g }, ap (λ (z : ℕ). cost_line z (ratio h.1.0 h.1.1) ∷ map node_line tree) (sym (eqb-true h.0 i f.0.0)))
 
 bound_parts : (strict : Bool) (i : ℕ) (b : BoundOf) → FitsBound strict b
-    → (h : ℕ × (ℤ × ℤ)) × (tree : List NodeOf) × FitsCostHead strict i h × FitsTree strict false tree × (bound_with h tree ≡ b) × (bound_lines i b ≡ (line_with (codes "cost" ∷ cost_others h) ∷ []) ++ map node_line tree)
+    → (h : ℕ × (ℤ × ℤ)) × (tree : List NodeOf) × FitsCostHead strict i h × FitsTree strict Proofs tree × (bound_with h tree ≡ b) × (bound_lines i b ≡ (line_with (codes "cost" ∷ cost_others h) ∷ []) ++ map node_line tree)
 bound_parts strict i b f = ((i, (b.cost.num, b.cost.den)), b.tree, ((eq-eqb i i refl, (f.cost.num, f.cost.den)), f.cost.lowest), f.tree, refl, refl)
 
 pub bound_form : (strict : Bool) (i : ℕ) → IsForm IsLine (FitsBound strict) (bound_lines i) (bound_read strict i)
 unfolding bound_read
 bound_form strict i =
     join_form IsLine {X = ℕ × (ℤ × ℤ)} {Y = List NodeOf} {Z = BoundOf} bound_with (FitsCostHead strict i) (λ h. line_with (codes "cost" ∷ cost_others h) ∷ []) (one_read (by_fields (cost_at strict i)))
-    (λ h. FitsTree strict false) (λ h. map node_line) (λ h. tree_read strict false) (FitsBound strict) (bound_lines i)
+    (λ h. FitsTree strict Proofs) (λ h. map node_line) (λ h. tree_read strict Proofs) (FitsBound strict) (bound_lines i)
     (one_form IsLine (FitsCostHead strict i) (λ h. line_with (codes "cost" ∷ cost_others h)) (by_fields (cost_at strict i)) (line_form (FitsCostHead strict i) (λ h. codes "cost") cost_others (cost_at strict i) (cost_whole strict i)) (i, (pos 0, pos 1)) (a_cost_fits strict i))
-    (λ h f. tree_form strict false) (λ h f. tree_some strict false)
+    (λ h f. tree_form strict Proofs) (λ h f. tree_some strict Proofs)
     (bound_made strict i) (bound_parts strict i)
 
 pub bound_some : (strict : Bool) → (b : BoundOf) × FitsBound strict b
-bound_some true = let t = tree_some true false in (record { cost = ratio (pos 0) (pos 1); tree = t.0 }, record { cost = record { num = refl; den = refl; lowest = zero_is_lowest }; tree = t.1 })
-bound_some false = let t = tree_some false false in (record { cost = ratio (pos 0) (pos 1); tree = t.0 }, record { cost = record { num = refl; den = refl; lowest = zero_is_lowest }; tree = t.1 })
+bound_some true = let t = tree_some true Proofs in (record { cost = ratio (pos 0) (pos 1); tree = t.0 }, record { cost = record { num = refl; den = refl; lowest = zero_is_lowest }; tree = t.1 })
+bound_some false = let t = tree_some false Proofs in (record { cost = ratio (pos 0) (pos 1); tree = t.0 }, record { cost = record { num = refl; den = refl; lowest = zero_is_lowest }; tree = t.1 })

@@ -1,10 +1,12 @@
 -- Parts of a text one after the other, in both readings.
-use Rattle.std.proofs.Common.{◌≡◌, ℕ, Bool, true, false, List, Result, Ok, Err, subst, Bor}
+use Rattle.std.proofs.Common.{◌≡◌, ℕ, Bool, true, false, List, map, Result, Ok, Err, subst, Bor}
 use Rattle.std.specs.Prelude.{codes}
 use Rattle.zr_game.specs.declared.kind.Kind.{Kind}
 use Rattle.zr_tree.specs.Nodes.{NodeOf}
+use Rattle.zr_cases.specs.Cases.{BNodeOf, RNodeOf}
 use Rattle.zr_cert.specs.declared.cert.Verdict.{Verdict}
-use Rattle.zr_cert.specs.Certs.{BoundOf, CertOf, EmptyVerdict, MixtureOf, ProfileVerdict, VerdictOf, verdict_of}
+use Rattle.zr_cert.specs.Certs.{BoundOf, BoxVerdict, CertOf, CoverVerdict, EmptyVerdict, MixtureOf, ProfileVerdict, VerdictOf, verdict_of}
+use Rattle.zr_cert.specs.Forms.{leaf_count}
 use Rattle.zr_form.specs.declared.fault.ReadError.{ReadError}
 use Rattle.zr_form.specs.Lines.{by_fields, lines_of}
 use Rattle.zr_form.specs.Reading.{Bytes, Read, many_read, one_read, spell_from}
@@ -12,11 +14,14 @@ use Rattle.zr_form.specs.Stops.{Gives, Stopped}
 use Rattle.zr_form.proofs.Composing.{Both, Shrinks, form_shrinks, join_first, join_ok, join_second, join_shrinks, many_shrinks, one_shrinks}
 use Rattle.zr_form.proofs.Forms.{IsForm, ManyFit, many_form}
 use Rattle.zr_form.proofs.Lines.{IsLine}
+use Rattle.zr_lines.specs.declared.ends.Ends.TheVariants.{Refuted}
+use Rattle.zr_lines.specs.Reader.{boxes_read, cases_read, tree_read}
+use Rattle.zr_lines.proofs.TextSteps.{boxes_shrinks, cases_shrinks, tree_shrinks}
 use Rattle.zr_text.specs.Fits.{FitsBound, FitsMixture}
-use Rattle.zr_text.specs.Reader.{VerdictLine, OfEmpty, OfProfile, body_read, bound_read, cert_read, verdict_line_at, end_read, kind_at, kind_read, profile_read, strategy_read, tree_read, verdict_read, word_at}
-use Rattle.zr_text.specs.Spelling.{bound_lines, strategy_lines}
+use Rattle.zr_text.specs.Reader.{VerdictLine, OfBoxes, OfCover, OfEmpty, OfProfile, body_read, bound_read, cert_read, cover_proof_read, cover_read, covers_in, named_in, verdict_line_at, end_read, kind_at, kind_read, profile_read, strategy_read, verdict_read, word_at}
+use Rattle.zr_text.specs.Spelling.{bound_lines, cover_lines, strategy_lines}
+use Rattle.zr_text.proofs.Covers.{CoverOf, CoversFit, covers_form, covers_read}
 use Rattle.zr_text.proofs.Players.{bound_form, strategy_form, strategy_some}
-use Rattle.zr_text.proofs.TextSteps.{tree_shrinks}
 
 abbrev pub strategies_read : Bool → ℕ → Read (List MixtureOf)
 strategies_read strict players = many_read (strategy_read strict) players 0
@@ -61,10 +66,29 @@ then_end v e = v
 abbrev refuted : ℕ → List NodeOf → Bytes → VerdictOf
 refuted player tree e = EmptyVerdict player tree
 
+-- the refutation over the covers that were read
+abbrev pub over_read : Bool → List CoverOf → Read (List RNodeOf)
+over_read strict cs = cases_read strict (map leaf_count (covers_in cs))
+
+abbrev and_cases : List CoverOf → List RNodeOf → VerdictOf
+and_cases cs proof = CoverVerdict (covers_in cs) (named_in cs) proof
+
+covers_shrinks : (players : ℕ) → Shrinks (covers_read false players)
+covers_shrinks players = form_shrinks IsLine (CoversFit false players) (spell_from cover_lines 0) (covers_read false players) (covers_form false players)
+
+cover_proof_shrinks : (players : ℕ) → Shrinks (cover_proof_read false players)
+unfolding cover_proof_read
+cover_proof_shrinks players = join_shrinks and_cases (covers_read false players) (over_read false) (covers_shrinks players) (λ cs. cases_shrinks false (map leaf_count (covers_in cs)))
+
+abbrev boxed : List BNodeOf → Bytes → VerdictOf
+boxed nodes e = BoxVerdict nodes
+
 body_shrinks : (players : ℕ) (c : VerdictLine) → Shrinks (body_read false players c)
 unfolding body_read
 body_shrinks players OfProfile = join_shrinks then_end (profile_read false players) (λ v. end_read) (profile_shrinks players) (λ v. end_shrinks)
-body_shrinks players (OfEmpty player) = join_shrinks (refuted player) (tree_read false true) (λ tree. end_read) (tree_shrinks false true) (λ tree. end_shrinks)
+body_shrinks players OfCover = join_shrinks then_end (cover_proof_read false players) (λ v. end_read) (cover_proof_shrinks players) (λ v. end_shrinks)
+body_shrinks players (OfEmpty player) = join_shrinks (refuted player) (tree_read false Refuted) (λ tree. end_read) (tree_shrinks false Refuted) (λ tree. end_shrinks)
+body_shrinks players OfBoxes = join_shrinks boxed (boxes_read false) (λ nodes. end_read) (boxes_shrinks false) (λ nodes. end_shrinks)
 
 abbrev stated : VerdictLine → VerdictOf → VerdictOf
 stated c v = v
@@ -113,19 +137,66 @@ profile_ended players ls mid rest v p h = join_ok then_end (profile_read true pl
 
 -- ---- a refuting tree
 
-pub empty_no_tree : (player players : ℕ) (ls : List Bytes) (e : ReadError) → Stopped e (tree_read true true ls) (tree_read false true ls) → Stopped e (body_read true players (OfEmpty player) ls) (body_read false players (OfEmpty player) ls)
+pub empty_no_tree : (player players : ℕ) (ls : List Bytes) (e : ReadError) → Stopped e (tree_read true Refuted ls) (tree_read false Refuted ls) → Stopped e (body_read true players (OfEmpty player) ls) (body_read false players (OfEmpty player) ls)
 unfolding body_read
-empty_no_tree player players ls e h = join_first (refuted player) (tree_read true true) (tree_read false true) (λ t. end_read) (λ t. end_read) ls e (λ t. end_shrinks) h
+empty_no_tree player players ls e h = join_first (refuted player) (tree_read true Refuted) (tree_read false Refuted) (λ t. end_read) (λ t. end_read) ls e (λ t. end_shrinks) h
 
-pub empty_no_end : (player players : ℕ) (ls mid : List Bytes) (tree : List NodeOf) (e : ReadError) → Both tree mid (tree_read true true ls) (tree_read false true ls) → Stopped e (word_read_at (codes "end") mid) (word_read_at (codes "end") mid)
+pub empty_no_end : (player players : ℕ) (ls mid : List Bytes) (tree : List NodeOf) (e : ReadError) → Both tree mid (tree_read true Refuted ls) (tree_read false Refuted ls) → Stopped e (word_read_at (codes "end") mid) (word_read_at (codes "end") mid)
     → Stopped e (body_read true players (OfEmpty player) ls) (body_read false players (OfEmpty player) ls)
 unfolding body_read end_read
-empty_no_end player players ls mid tree e t h = join_second (refuted player) (tree_read true true) (tree_read false true) (λ t. end_read) (λ t. end_read) ls mid tree e t h
+empty_no_end player players ls mid tree e t h = join_second (refuted player) (tree_read true Refuted) (tree_read false Refuted) (λ t. end_read) (λ t. end_read) ls mid tree e t h
 
-pub empty_ended : (player players : ℕ) (ls mid rest : List Bytes) (tree : List NodeOf) → Both tree mid (tree_read true true ls) (tree_read false true ls) → word_read_at (codes "end") mid ≡ Ok (codes "end", rest)
+pub empty_ended : (player players : ℕ) (ls mid rest : List Bytes) (tree : List NodeOf) → Both tree mid (tree_read true Refuted ls) (tree_read false Refuted ls) → word_read_at (codes "end") mid ≡ Ok (codes "end", rest)
     → Both (EmptyVerdict player tree) rest (body_read true players (OfEmpty player) ls) (body_read false players (OfEmpty player) ls)
 unfolding body_read end_read
-empty_ended player players ls mid rest tree t h = join_ok (refuted player) (tree_read true true) (tree_read false true) (λ t. end_read) (λ t. end_read) ls mid rest tree (codes "end") t (h, h)
+empty_ended player players ls mid rest tree t h = join_ok (refuted player) (tree_read true Refuted) (tree_read false Refuted) (λ t. end_read) (λ t. end_read) ls mid rest tree (codes "end") t (h, h)
+
+-- ---- covers and the refutation over them
+
+pub cover_no_covers : (players : ℕ) (ls : List Bytes) (e : ReadError) → Stopped e (covers_read true players ls) (covers_read false players ls) → Stopped e (body_read true players OfCover ls) (body_read false players OfCover ls)
+unfolding body_read cover_proof_read
+cover_no_covers players ls e h =
+    join_first then_end (cover_proof_read true players) (cover_proof_read false players) (λ v. end_read) (λ v. end_read) ls e (λ v. end_shrinks)
+    (join_first and_cases (covers_read true players) (covers_read false players) (over_read true) (over_read false) ls e (λ cs. cases_shrinks false (map leaf_count (covers_in cs))) h)
+
+pub cover_no_cases : (players : ℕ) (ls mid : List Bytes) (cs : List CoverOf) (e : ReadError) → Both cs mid (covers_read true players ls) (covers_read false players ls) → Stopped e (over_read true cs mid) (over_read false cs mid)
+    → Stopped e (body_read true players OfCover ls) (body_read false players OfCover ls)
+unfolding body_read cover_proof_read
+cover_no_cases players ls mid cs e s h =
+    join_first then_end (cover_proof_read true players) (cover_proof_read false players) (λ v. end_read) (λ v. end_read) ls e (λ v. end_shrinks)
+    (join_second and_cases (covers_read true players) (covers_read false players) (over_read true) (over_read false) ls mid cs e s h)
+
+-- the covers and the refutation were read
+pub cover_proof_taken : (players : ℕ) (ls mid rest : List Bytes) (cs : List CoverOf) (proof : List RNodeOf) → Both cs mid (covers_read true players ls) (covers_read false players ls) → Both proof rest (over_read true cs mid) (over_read false cs mid)
+    → Both (CoverVerdict (covers_in cs) (named_in cs) proof) rest (cover_proof_read true players ls) (cover_proof_read false players ls)
+unfolding cover_proof_read
+cover_proof_taken players ls mid rest cs proof s b = join_ok and_cases (covers_read true players) (covers_read false players) (over_read true) (over_read false) ls mid rest cs proof s b
+
+pub cover_no_end : (players : ℕ) (ls mid : List Bytes) (v : VerdictOf) (e : ReadError) → Both v mid (cover_proof_read true players ls) (cover_proof_read false players ls) → Stopped e (word_read_at (codes "end") mid) (word_read_at (codes "end") mid)
+    → Stopped e (body_read true players OfCover ls) (body_read false players OfCover ls)
+unfolding body_read end_read
+cover_no_end players ls mid v e p h = join_second then_end (cover_proof_read true players) (cover_proof_read false players) (λ w. end_read) (λ w. end_read) ls mid v e p h
+
+pub cover_ended : (players : ℕ) (ls mid rest : List Bytes) (v : VerdictOf) → Both v mid (cover_proof_read true players ls) (cover_proof_read false players ls) → word_read_at (codes "end") mid ≡ Ok (codes "end", rest)
+    → Both v rest (body_read true players OfCover ls) (body_read false players OfCover ls)
+unfolding body_read end_read
+cover_ended players ls mid rest v p h = join_ok then_end (cover_proof_read true players) (cover_proof_read false players) (λ w. end_read) (λ w. end_read) ls mid rest v (codes "end") p (h, h)
+
+-- ---- a box tree
+
+pub boxes_no_tree : (players : ℕ) (ls : List Bytes) (e : ReadError) → Stopped e (boxes_read true ls) (boxes_read false ls) → Stopped e (body_read true players OfBoxes ls) (body_read false players OfBoxes ls)
+unfolding body_read
+boxes_no_tree players ls e h = join_first boxed (boxes_read true) (boxes_read false) (λ t. end_read) (λ t. end_read) ls e (λ t. end_shrinks) h
+
+pub boxes_no_end : (players : ℕ) (ls mid : List Bytes) (nodes : List BNodeOf) (e : ReadError) → Both nodes mid (boxes_read true ls) (boxes_read false ls) → Stopped e (word_read_at (codes "end") mid) (word_read_at (codes "end") mid)
+    → Stopped e (body_read true players OfBoxes ls) (body_read false players OfBoxes ls)
+unfolding body_read end_read
+boxes_no_end players ls mid nodes e t h = join_second boxed (boxes_read true) (boxes_read false) (λ t. end_read) (λ t. end_read) ls mid nodes e t h
+
+pub boxes_ended : (players : ℕ) (ls mid rest : List Bytes) (nodes : List BNodeOf) → Both nodes mid (boxes_read true ls) (boxes_read false ls) → word_read_at (codes "end") mid ≡ Ok (codes "end", rest)
+    → Both (BoxVerdict nodes) rest (body_read true players OfBoxes ls) (body_read false players OfBoxes ls)
+unfolding body_read end_read
+boxes_ended players ls mid rest nodes t h = join_ok boxed (boxes_read true) (boxes_read false) (λ t. end_read) (λ t. end_read) ls mid rest nodes (codes "end") t (h, h)
 
 -- ---- the verdict
 

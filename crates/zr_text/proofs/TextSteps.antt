@@ -1,49 +1,22 @@
--- What was read of a text, and how much of it is left.
-use Rattle.std.proofs.Common.{◌≡◌, ℕ, ℤ, ◌+◌, ◌^◌, ◌<◌, ◌≤◌, Bool, true, false, List, [], ◌∷◌, Option, ◌++◌, map, length, Ok, ap, arith}
-use Rattle.std.proofs.lemmas.List.{length-append, length-map}
+-- What was read of strategies, bounds and covers.
+use Rattle.std.proofs.Common.{◌≡◌, ℕ, ℤ, ◌<◌, Some, None, Ok, true, false, Bool, List, ◌∷◌, ◌++◌, [], map, length, ap, arith, sym, ◌∙◌}
+use Rattle.std.specs.Prelude.{bytes_eq, if◌then◌else◌}
 use Rattle.zr_base.specs.Fractions.{ratio}
+use Rattle.zr_game.specs.Named.{NamedOf}
 use Rattle.zr_game.specs.Profiles.{Part}
-use Rattle.zr_tree.specs.Form.{IsTree}
 use Rattle.zr_tree.specs.Nodes.{NodeOf}
 use Rattle.zr_cert.specs.Certs.{BoundOf, MixtureOf}
 use Rattle.zr_form.specs.declared.fault.ReadError.{ReadError}
-use Rattle.zr_form.specs.Lines.{by_fields, concat, lines_of}
+use Rattle.zr_form.specs.Fields.{integer_read, word_read}
+use Rattle.zr_form.specs.Lines.{by_fields}
 use Rattle.zr_form.specs.Reading.{Bytes, Read, items_read, one_read}
 use Rattle.zr_form.specs.Stops.{Stopped}
-use Rattle.zr_form.proofs.Composing.{Both, Shrinks, form_shrinks, items_shrinks, join_first, join_ok, join_second, lines_fit}
-use Rattle.zr_form.proofs.Forms.{IsForm}
-use Rattle.zr_form.proofs.Lines.{IsLine, lines_joined}
-use Rattle.zr_text.specs.Fits.{FitsTree}
-use Rattle.zr_text.specs.Reader.{bound_read, cost_at, part_at, player_at, strategy_read, tree_read}
-use Rattle.zr_text.specs.Spelling.{node_line}
-use Rattle.zr_text.proofs.Kept.{tree_told}
-use Rattle.zr_text.proofs.Nodes.{tree_form}
-use Rattle.zr_text.proofs.OtherTests.{one_front}
-
-pub concat_length : (ps qs : List Bytes) → length (concat (ps ++ qs)) ≡ length (concat ps) + length (concat qs)
-concat_length [] qs = omega arith
-concat_length (p ∷ ps) qs = omega (arith, concat_length ps qs, length-append p (concat (ps ++ qs)), length-append p (concat ps))
-
--- no more bytes are left than there were
-pub left_within : {X : Type 0} (F : X → Type 0) (spell : X → List Bytes) (read : Read X) → IsForm IsLine F spell read → (bytes rest : Bytes) (x : X) → read (lines_of bytes) ≡ Ok (x, lines_of rest) → length rest ≤ length bytes
-left_within F spell read form bytes rest x e =
-    let h = form.exact.sound (lines_of bytes) (lines_of rest) x e in
-    let k : length (concat (lines_of bytes)) ≡ length (concat (spell x ++ lines_of rest)) = ap (λ (z : List Bytes). length (concat z)) h.1 in
-    omega (arith, k, concat_length (spell x) (lines_of rest), ap length (lines_joined bytes), ap length (lines_joined rest))
-
--- one line less is left
-pub one_left : {X : Type 0} (one : Bytes → Option X) (bytes rest : Bytes) (x : X) → one_read one (lines_of bytes) ≡ Ok (x, lines_of rest) → length rest ≤ length bytes
-one_left one bytes rest x e =
-    let h = one_front one (lines_of bytes) (lines_of rest) x e in
-    let k : length (concat (lines_of bytes)) ≡ length (concat (h.0 ∷ lines_of rest)) = ap (λ (z : List Bytes). length (concat z)) h.1 in
-    omega (arith, k, length-append h.0 (concat (lines_of rest)), ap length (lines_joined bytes), ap length (lines_joined rest))
-
--- the nodes that were read are one tree
-pub tree_made : (refuting : Bool) (bytes : Bytes) (ls : List Bytes) (nodes : List NodeOf) → length bytes < 2 ^ 32 → tree_read true refuting (lines_of bytes) ≡ Ok (nodes, ls) → IsTree nodes
-tree_made refuting bytes ls nodes few e =
-    let h = (tree_form true refuting).exact.sound (lines_of bytes) ls nodes e in
-    let n : length nodes < 2 ^ 32 = omega (arith, ap length h.1, length-append (map node_line nodes) ls, length-map nodes node_line, lines_fit bytes) in
-    (tree_told refuting (λ node. Unit {0}) (λ node f. tt) nodes h.0 n).whole
+use Rattle.zr_form.proofs.Composing.{Both, Shrinks, form_shrinks, items_shrinks, join_first, join_ok, join_second}
+use Rattle.zr_lines.specs.declared.ends.Ends.TheVariants.{Proofs, Covered}
+use Rattle.zr_lines.specs.Reader.{named_read, tree_read}
+use Rattle.zr_lines.proofs.OtherTests.{integer_front, one_front}
+use Rattle.zr_lines.proofs.TextSteps.{named_shrinks, tree_shrinks}
+use Rattle.zr_text.specs.Reader.{bound_read, cost_at, cover_read, part_at, player_at, strategy_read}
 
 -- ---- a strategy: a player's line, and the parts
 
@@ -77,18 +50,42 @@ cost_read strict i = one_read (by_fields (cost_at strict i))
 abbrev bound_with : ℕ × (ℤ × ℤ) → List NodeOf → BoundOf
 bound_with h tree = record { cost = ratio h.1.0 h.1.1; tree = tree }
 
-pub tree_shrinks : (strict refuting : Bool) → Shrinks (tree_read strict refuting)
-tree_shrinks strict refuting = form_shrinks IsLine (FitsTree strict refuting) (map node_line) (tree_read strict refuting) (tree_form strict refuting)
-
 pub bound_no_cost : (i : ℕ) (ls : List Bytes) (e : ReadError) → Stopped e (cost_read true i ls) (cost_read false i ls) → Stopped e (bound_read true i ls) (bound_read false i ls)
 unfolding bound_read
-bound_no_cost i ls e h = join_first bound_with (cost_read true i) (cost_read false i) (λ c. tree_read true false) (λ c. tree_read false false) ls e (λ c. tree_shrinks false false) h
+bound_no_cost i ls e h = join_first bound_with (cost_read true i) (cost_read false i) (λ c. tree_read true Proofs) (λ c. tree_read false Proofs) ls e (λ c. tree_shrinks false Proofs) h
 
-pub bound_no_tree : (i : ℕ) (ls mid : List Bytes) (cost : ℕ × (ℤ × ℤ)) (e : ReadError) → Both cost mid (cost_read true i ls) (cost_read false i ls) → Stopped e (tree_read true false mid) (tree_read false false mid) → Stopped e (bound_read true i ls) (bound_read false i ls)
+pub bound_no_tree : (i : ℕ) (ls mid : List Bytes) (cost : ℕ × (ℤ × ℤ)) (e : ReadError) → Both cost mid (cost_read true i ls) (cost_read false i ls) → Stopped e (tree_read true Proofs mid) (tree_read false Proofs mid) → Stopped e (bound_read true i ls) (bound_read false i ls)
 unfolding bound_read
-bound_no_tree i ls mid cost e h t = join_second bound_with (cost_read true i) (cost_read false i) (λ c. tree_read true false) (λ c. tree_read false false) ls mid cost e h t
+bound_no_tree i ls mid cost e h t = join_second bound_with (cost_read true i) (cost_read false i) (λ c. tree_read true Proofs) (λ c. tree_read false Proofs) ls mid cost e h t
 
-pub bound_taken : (i : ℕ) (ls mid rest : List Bytes) (cost : ℕ × (ℤ × ℤ)) (tree : List NodeOf) → Both cost mid (cost_read true i ls) (cost_read false i ls) → Both tree rest (tree_read true false mid) (tree_read false false mid)
+pub bound_taken : (i : ℕ) (ls mid rest : List Bytes) (cost : ℕ × (ℤ × ℤ)) (tree : List NodeOf) → Both cost mid (cost_read true i ls) (cost_read false i ls) → Both tree rest (tree_read true Proofs mid) (tree_read false Proofs mid)
     → Both (record { cost = ratio cost.1.0 cost.1.1; tree = tree }) rest (bound_read true i ls) (bound_read false i ls)
 unfolding bound_read
-bound_taken i ls mid rest cost tree h t = join_ok bound_with (cost_read true i) (cost_read false i) (λ c. tree_read true false) (λ c. tree_read false false) ls mid rest cost tree h t
+bound_taken i ls mid rest cost tree h t = join_ok bound_with (cost_read true i) (cost_read false i) (λ c. tree_read true Proofs) (λ c. tree_read false Proofs) ls mid rest cost tree h t
+
+-- ---- a cover: a tree, and named points and rays
+
+abbrev side_by_side : List NodeOf → List NamedOf → List NodeOf × List NamedOf
+side_by_side tree items = (tree, items)
+
+pub cover_no_tree : (ls : List Bytes) (e : ReadError) → Stopped e (tree_read true Covered ls) (tree_read false Covered ls) → Stopped e (cover_read true ls) (cover_read false ls)
+unfolding cover_read
+cover_no_tree ls e h = join_first side_by_side (tree_read true Covered) (tree_read false Covered) (λ t. named_read true) (λ t. named_read false) ls e (λ t. named_shrinks false) h
+
+pub cover_no_named : (ls mid : List Bytes) (tree : List NodeOf) (e : ReadError) → Both tree mid (tree_read true Covered ls) (tree_read false Covered ls) → Stopped e (named_read true mid) (named_read false mid) → Stopped e (cover_read true ls) (cover_read false ls)
+unfolding cover_read
+cover_no_named ls mid tree e t h = join_second side_by_side (tree_read true Covered) (tree_read false Covered) (λ t. named_read true) (λ t. named_read false) ls mid tree e t h
+
+pub cover_taken : (ls mid rest : List Bytes) (tree : List NodeOf) (items : List NamedOf) → Both tree mid (tree_read true Covered ls) (tree_read false Covered ls) → Both items rest (named_read true mid) (named_read false mid) → Both (tree, items) rest (cover_read true ls) (cover_read false ls)
+unfolding cover_read
+cover_taken ls mid rest tree items t h = join_ok side_by_side (tree_read true Covered) (tree_read false Covered) (λ t. named_read true) (λ t. named_read false) ls mid rest tree items t h
+
+-- ---- how many fields are left
+
+pub word_shorter : (word : Bytes) (fs gs : List Bytes) (w : Bytes) → word_read word fs ≡ Ok (w, gs) → length gs < length fs
+unfolding word_read
+word_shorter word fs gs w e =
+    let h = one_front (λ f. if bytes_eq f word then Some f else None) fs gs w e in omega (arith, ap length h.1)
+
+pub integer_shorter : (test : ℤ → Bool) (fs gs : List Bytes) (z : ℤ) → integer_read test fs ≡ Ok (z, gs) → length gs < length fs
+integer_shorter test fs gs z e = let h = integer_front test fs gs z e in omega (arith, ap length h.1)

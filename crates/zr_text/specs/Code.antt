@@ -1,52 +1,30 @@
 -- What the functions of the code give, in the words of the reading.
-use Rattle.std.specs.Prelude.{◌≡◌, ℕ, ℤ, ◌+◌, List, [], ◌∷◌, Bool, true, false, Option, Some, None, Result, Ok, Err, ◌==◌, codes, option_copied}
+use Rattle.std.specs.Prelude.{◌≡◌, ℕ, ℤ, IfOk, length, map, option_copied, List, Bool, true, false, Option, Some, None, Result, Ok, Err, ◌==◌, codes}
 use Rattle.std.proofs.Common.{Bor}
+use Rattle.std.specs.Global.{Vec}
+use Rattle.std.specs.List.{zip}
+use Rattle.zr_game.specs.declared.named.Named.{Named}
+use Rattle.zr_game.specs.Named.{NamedOf}
+use Rattle.zr_tree.specs.declared.tree.Tree.{Tree}
+use Rattle.zr_tree.specs.Nodes.{NodeOf}
+use Rattle.zr_cert.specs.Certs.{named_list, nodes_of}
 use Rattle.zr_form.specs.Bounds.{is_narrow, is_positive}
 use Rattle.zr_form.specs.Code.{left_of}
-use Rattle.zr_form.specs.Fields.{and_more, ended, integer_read, natural_read, pair, skip}
+use Rattle.zr_form.specs.Fields.{ended, integer_read, natural_read, pair, skip}
 use Rattle.zr_form.specs.declared.fault.ReadError.{ReadError}
-use Rattle.zr_form.specs.Lines.{fields_of, lines_of}
-use Rattle.zr_form.specs.Numbers.{natural}
+use Rattle.zr_form.specs.Lines.{lines_of}
 use Rattle.zr_form.specs.Reading.{Bytes}
-use Rattle.zr_form.specs.Stops.{Stopped}
+use Rattle.zr_form.specs.Stops.{Gives, Stopped}
 use Rattle.zr_text.specs.declared.heading.VerdictLine.{VerdictLine}
-use Rattle.zr_text.specs.declared.heading.VerdictLine.TheVariants.{Profile, Empty}
-use Rattle.zr_text.specs.Reader.{VerdictLine as VerdictLineOf, OfProfile, OfEmpty, multipliers}
-
--- a slot and its multiplier at the front of a line, with what is left of it; None where no pairs are there
-abbrev pub TakesPair : Bytes → Option (ℕ × ℤ × Option (Bor (List ℕ))) → Type 0
-TakesPair line (Some x) = multipliers true (fields_of line) ≡ and_more (Some (x.0, x.1)) (multipliers true (left_of (option_copied x.2)))
-TakesPair line None = multipliers true (fields_of line) ≡ None
-
--- the least slot that is allowed after the last one
-abbrev pub IsFloor : Option (Bor (List ℕ)) → ℕ → Type 0
-IsFloor None least = least ≡ 0
-IsFloor (Some slot) least = (n : ℕ) × (natural slot.now ≡ Some n) × (least ≡ n + 1)
-
--- something was taken from the front of a line, whatever it is; where it isn't there nothing was taken
-abbrev pub TakesAny : {X : Type 0} → Option (Bor (List ℕ)) → Option (Option (Bor (List ℕ))) → Result (X × List Bytes) (List Bytes) → Type 0
-TakesAny {X = X} left (Some rest) read = (x : X) × (read ≡ Ok (x, left_of (option_copied rest)))
-TakesAny left None read = read ≡ Err (left_of (option_copied left))
-
--- this was taken from the front of a line
-abbrev pub TakesThis : {X : Type 0} → X → Option (Bor (List ℕ)) → Option (Option (Bor (List ℕ))) → Result (X × List Bytes) (List Bytes) → Type 0
-TakesThis x left (Some rest) read = read ≡ Ok (x, left_of (option_copied rest))
-TakesThis x left None read = read ≡ Err (left_of (option_copied left))
-
--- a line begins with these three, or doesn't
-abbrev pub BeginsThree : {X Y Z : Type 0} → Option (X × Y × Z × Option (Bor (List ℕ))) → Result ((X × (Y × Z)) × List Bytes) (List Bytes) → Type 0
-BeginsThree (Some x) read = read ≡ Ok ((x.0, (x.1, x.2)), left_of (option_copied x.3))
-BeginsThree None read = (fs : List Bytes) × (read ≡ Err fs)
-
--- nothing is left of a line, or a field is
-abbrev pub IsEnd : {X : Type 0} → Option (Bor (List ℕ)) → Option X → Type 0
-IsEnd left (Some x) = left_of (option_copied left) ≡ []
-IsEnd left None = (f : Bytes) × (fs : List Bytes) × (left_of (option_copied left) ≡ f ∷ fs)
+use Rattle.zr_text.specs.declared.heading.VerdictLine.TheVariants.{Profile, Cover, Empty, Boxes}
+use Rattle.zr_text.specs.Reader.{VerdictLine as VerdictLineOf, OfProfile, OfCover, OfEmpty, OfBoxes}
 
 -- what the verdict's line says
 abbrev pub verdict_line_of : VerdictLine → VerdictLineOf
 verdict_line_of Profile = OfProfile
+verdict_line_of Cover = OfCover
 verdict_line_of (Empty player) = OfEmpty player
+verdict_line_of Boxes = OfBoxes
 
 -- whether it is this
 abbrev pub IsThis : {X : Type 0} → X → Bool → Option X → Type 0
@@ -62,7 +40,12 @@ GivesThis x (Err e) read = Stopped e read read
 abbrev pub cost_numbers : Bool → ℕ → List Bytes → Option (ℕ × (ℤ × ℤ))
 cost_numbers strict i fs = ended (skip (codes "cost") (pair (natural_read (λ n. n == i)) (pair (integer_read (is_narrow strict)) (integer_read (is_positive strict)))) fs)
 
--- a field was taken that spells this number
-abbrev pub TakesSpelled : {N : Type 0} → (Bytes → Option N) → Option (Bor (List ℕ)) → Option (Bor (List ℕ) × Option (Bor (List ℕ))) → Result (N × List Bytes) (List Bytes) → Type 0
-TakesSpelled {N = N} number left (Some x) read = (n : N) × (number x.0.now ≡ Some n) × (read ≡ Ok (n, left_of (option_copied x.1)))
-TakesSpelled number left None read = read ≡ Err (left_of (option_copied left))
+-- covers and as many lists of points and rays were read, with the lines that are left of the text
+abbrev pub GivesCovers : Result ((Vec Tree × Vec (Vec Named)) × Bor (List ℕ)) ReadError → Result (List (List NodeOf × List NamedOf) × List Bytes) (List Bytes) → Result (List (List NodeOf × List NamedOf) × List Bytes) (List Bytes) → Type 0
+GivesCovers result strict loose =
+    Gives (λ all. zip (map nodes_of all.0.items) (map named_list all.1.items)) result strict loose × IfOk result (λ x. length x.0.1.items ≡ length x.0.0.items)
+
+-- a line begins with this, or doesn't
+abbrev pub Begins : {X : Type 0} → Option (X × Option (Bor (List ℕ))) → Result (X × List Bytes) (List Bytes) → Type 0
+Begins (Some x) read = read ≡ Ok (x.0, left_of (option_copied x.1))
+Begins None read = (fs : List Bytes) × (read ≡ Err fs)

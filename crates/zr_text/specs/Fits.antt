@@ -1,66 +1,28 @@
 -- Which certificates have a text. Where `strict` is false the upper bounds of numbers are left out.
-use Rattle.std.specs.Prelude.{◌≡◌, ℕ, ◌+◌, ◌<◌, ℤ, pos, unsigned_abs, int_le, List, [], ◌∷◌, length, Bool, true, false, not, ◌&&◌, ◌||◌, ◌==◌, nat_le}
+use Rattle.std.specs.Prelude.{◌≡◌, ℕ, ℤ, unsigned_abs, List, length, map, Bool, true, not, ◌&&◌, ◌||◌, ◌==◌, nat_le}
 use Rattle.std.specs.List.{AllByRecursion}
 use Rattle.zr_base.specs.Fractions.{Fraction}
 use Rattle.zr_base.specs.Lowest.{gcd_of}
+use Rattle.zr_game.specs.Named.{NamedOf}
 use Rattle.zr_game.specs.Profiles.{Part}
-use Rattle.zr_tree.specs.Form.{child_count, greatest_split, least_split}
-use Rattle.zr_tree.specs.Nodes.{Multipliers, NodeOf, SplitNode, ChooseNode, ProofNode, KnownNode, LooseNode}
-use Rattle.zr_cert.specs.Certs.{BoundOf, CertOf, EmptyVerdict, MixtureOf, ProfileVerdict, VerdictOf}
+use Rattle.zr_tree.specs.Nodes.{NodeOf}
+use Rattle.zr_cases.specs.Cases.{RNodeOf}
+use Rattle.zr_cert.specs.Certs.{BoundOf, BoxVerdict, CertOf, CoverVerdict, EmptyVerdict, MixtureOf, ProfileVerdict, VerdictOf}
+use Rattle.zr_cert.specs.Forms.{leaf_count}
 use Rattle.zr_form.specs.Bounds.{Passes, below, is_count, is_index, is_narrow, is_positive}
-use Rattle.zr_form.specs.Reading.{Closes}
+use Rattle.zr_lines.specs.declared.ends.Ends.TheVariants.{Proofs, Refuted, Covered}
+use Rattle.zr_lines.specs.Fits.{FitsBoxes, FitsCases, FitsNamedList, FitsPoint, FitsTree}
 
--- a weight of at least 1, and a point of at least one number
+-- a weight of at least 1, and a point
 pub record FitsPart (strict : Bool) (part : Part) : Type 0 where
   pub weight : Passes (is_positive strict) part.weight
-  pub den : Passes (is_positive strict) part.point.den
-  pub some : 0 < length part.point.num
-  pub nums : AllByRecursion (Passes (is_narrow strict)) part.point.num
+  pub point : FitsPoint strict part.point
 
 -- a total of at least 1, and at least one part
 pub record FitsMixture (strict : Bool) (m : MixtureOf) : Type 0 where
   pub total : Passes (is_positive strict) m.total
   pub count : Passes (is_count strict) (length m.parts)
   pub parts : AllByRecursion (FitsPart strict) m.parts
-
--- a number that a variable is split at, from -2^62 to 2^62 - 1
-abbrev pub is_at : Bool → ℤ → Bool
-is_at strict z = not strict || (int_le least_split z && int_le z greatest_split)
-
--- A scale is at least 0. In a refuting tree, that of an empty player, each scale is 0.
-abbrev pub is_scale : Bool → Bool → ℤ → Bool
-is_scale strict refuting z = is_narrow strict z && (int_le (pos 0) z && (not refuting || int_le z (pos 0)))
-
--- a row and a multiplier of at least 1
-abbrev pub FitsMultiplier : Bool → ℕ × ℤ → Type 0
-FitsMultiplier strict t = Passes (is_index strict) t.0 × Passes (is_positive strict) t.1
-
--- rows ascend strictly, from the least one on
-abbrev pub ascend_from : ℕ → Multipliers → Bool
-ascend_from least [] = true
-ascend_from least (t ∷ ts) = nat_le least t.0 && ascend_from (t.0 + 1) ts
-
-abbrev pub ascend : Multipliers → Bool
-ascend mult = ascend_from 0 mult
-
--- a scale, and a count of pairs whose rows ascend
-pub record FitsLeaf (strict refuting : Bool) (factor : ℤ) (mult : Multipliers) : Type 0 where
-  pub scale : Passes (is_scale strict refuting) factor
-  pub count : Passes (is_index strict) (length mult)
-  pub each : AllByRecursion (FitsMultiplier strict) mult
-  pub ascends : Passes ascend mult
-
--- a split, a choice or a leaf
-abbrev pub FitsNode : Bool → Bool → NodeOf → Type 0
-FitsNode strict refuting (SplitNode v at) = Passes (is_index strict) v × Passes (is_at strict) at
-FitsNode strict refuting (ChooseNode p) = Passes (is_index strict) p
-FitsNode strict refuting (ProofNode scale mult) = FitsLeaf strict refuting scale mult
-FitsNode strict refuting (KnownNode x) = ⊥
-FitsNode strict refuting LooseNode = ⊥
-
--- one whole tree, each node before its children
-abbrev pub FitsTree : Bool → Bool → List NodeOf → Type 0
-FitsTree strict refuting nodes = Closes child_count nodes 1 × AllByRecursion (FitsNode strict refuting) nodes
 
 -- Lowest terms are asked where both numbers are within the upper bounds.
 abbrev pub is_lowest : ℤ → ℤ → Bool
@@ -75,13 +37,23 @@ pub record FitsCost (strict : Bool) (f : Fraction) : Type 0 where
 -- a cost, and a tree whose leaves have any scale
 pub record FitsBound (strict : Bool) (b : BoundOf) : Type 0 where
   pub cost : FitsCost strict b.cost
-  pub tree : FitsTree strict false b.tree
+  pub tree : FitsTree strict Proofs b.tree
 
--- a strategy and a bound for each player; or a player, and a tree that refutes its leaves
+-- a cover and a list of points and rays for each player, and a refutation over the covers' leaves
+pub record FitsCoverProof (strict : Bool) (players : ℕ) (covers : List (List NodeOf)) (named : List (List NamedOf)) (proof : List RNodeOf) : Type 0 where
+  pub cover_count : length covers ≡ players
+  pub cover_trees : AllByRecursion (FitsTree strict Covered) covers
+  pub named_count : length named ≡ players
+  pub named_lists : AllByRecursion (FitsNamedList strict) named
+  pub cases : FitsCases strict (map leaf_count covers) proof
+
+-- a strategy and a bound for each player; covers and a refutation; a player, and a tree that refutes its leaves; or a box tree
 abbrev pub FitsVerdict : Bool → ℕ → VerdictOf → Type 0
 FitsVerdict strict players (ProfileVerdict mixtures bounds) =
     (length mixtures ≡ players) × AllByRecursion (FitsMixture strict) mixtures × (length bounds ≡ players) × AllByRecursion (FitsBound strict) bounds
-FitsVerdict strict players (EmptyVerdict player tree) = Passes (is_index strict) player × FitsTree strict true tree
+FitsVerdict strict players (CoverVerdict covers named proof) = FitsCoverProof strict players covers named proof
+FitsVerdict strict players (EmptyVerdict player tree) = Passes (is_index strict) player × FitsTree strict Refuted tree
+FitsVerdict strict players (BoxVerdict nodes) = FitsBoxes strict nodes
 
 -- a number of players
 abbrev pub is_player_count : Bool → ℕ → Bool

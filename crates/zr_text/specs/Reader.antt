@@ -1,29 +1,33 @@
 -- Reading a certificate from left to right, line after line.
-use Rattle.std.specs.Prelude.{ℕ, ℤ, List, [], ◌∷◌, length, Bool, true, false, ◌&&◌, ◌==◌, if◌then◌else◌, Option, Some, None, option_map, bytes_eq, codes}
+use Rattle.std.specs.Prelude.{ℕ, ℤ, List, map, Bool, true, false, ◌==◌, if◌then◌else◌, Option, Some, None, option_map, bytes_eq, codes}
 use Rattle.zr_base.specs.Fractions.{ratio}
+use Rattle.zr_base.specs.Points.{PointOf}
+use Rattle.zr_game.specs.Named.{NamedOf}
 use Rattle.zr_game.specs.declared.kind.Kind.{Kind}
 use Rattle.zr_game.specs.declared.kind.Kind.TheVariants.{Pure, Mixed}
 use Rattle.zr_game.specs.Profiles.{Part}
-use Rattle.zr_tree.specs.Form.{child_count}
-use Rattle.zr_tree.specs.Nodes.{Multipliers, NodeOf, SplitNode, ChooseNode, ProofNode}
-use Rattle.zr_cert.specs.Certs.{BoundOf, CertOf, EmptyVerdict, MixtureOf, ProfileVerdict, VerdictOf}
+use Rattle.zr_tree.specs.Nodes.{NodeOf}
+use Rattle.zr_cert.specs.Certs.{BoundOf, BoxVerdict, CertOf, CoverVerdict, EmptyVerdict, MixtureOf, ProfileVerdict, VerdictOf}
+use Rattle.zr_cert.specs.Forms.{leaf_count}
 use Rattle.zr_form.specs.Bounds.{is_count, is_index, is_narrow, is_positive}
-use Rattle.zr_form.specs.Fields.{alone, and_more, ended, integer_read, integers, join_whole, natural_read, only_if, pair, skip, word_read}
+use Rattle.zr_form.specs.Fields.{alone, ended, integer_read, join_whole, natural_read, only_if, pair, skip, word_read}
 use Rattle.zr_form.specs.Lines.{by_fields}
-use Rattle.zr_form.specs.Numbers.{integer, natural}
 use Rattle.zr_form.specs.Reading.{Bytes, Read, items_read, join_read, many_read, one_read}
-use Rattle.zr_text.specs.Fits.{ascend, is_at, is_player_count, is_lowest, is_scale}
+use Rattle.zr_lines.specs.declared.ends.Ends.TheVariants.{Proofs, Refuted, Covered}
+use Rattle.zr_lines.specs.Reader.{boxes_read, by_word, cases_read, named_read, point_at, tree_read}
+use Rattle.zr_lines.specs.Words.{or_else}
+use Rattle.zr_text.specs.declared.words.NoneWord.{NoneWord}
+use Rattle.zr_text.specs.declared.words.NoneWord.TheVariants.{Cover, Empty, Boxes}
+use Rattle.zr_text.specs.Fits.{is_player_count, is_lowest}
 
 -- ---- lines, by their fields
 
--- of the weight, the denominator and the first number, and of the other numbers
-abbrev pub part_with : ℤ × (ℤ × ℤ) → List ℤ → Part
-part_with h nums = record { weight = h.0; point = record { num = h.1.1 ∷ nums; den = h.1.0 } }
+abbrev pub weighing : ℤ → PointOf → Part
+weighing weight point = record { weight = weight; point = point }
 
 -- a weight and a point
 unfoldable pub part_at : Bool → List Bytes → Option Part
-part_at strict =
-    join_whole part_with (skip (codes "part") (pair (integer_read (is_positive strict)) (pair (integer_read (is_positive strict)) (integer_read (is_narrow strict))))) (λ h. integers (is_narrow strict))
+part_at strict = join_whole weighing (skip (codes "part") (integer_read (is_positive strict))) (λ weight. point_at strict)
 
 -- the number of the player, which is i, the total, and how many parts follow
 unfoldable pub player_at : Bool → ℕ → List Bytes → Option (ℕ × (ℤ × ℕ))
@@ -34,47 +38,6 @@ player_at strict i fs =
 unfoldable pub cost_at : Bool → ℕ → List Bytes → Option (ℕ × (ℤ × ℤ))
 cost_at strict i fs =
     only_if (λ h. is_lowest h.1.0 h.1.1) (ended (skip (codes "cost") (pair (natural_read (λ n. n == i)) (pair (integer_read (is_narrow strict)) (integer_read (is_positive strict)))) fs))
-
--- the word at the front of a node's line
-pub data NodeWord : Type 0 where
-  SplitWord : NodeWord
-  ChooseWord : NodeWord
-  LeafWord : NodeWord
-
--- which word it is
-abbrev pub node_word : Bytes → Option NodeWord
-node_word f =
-    if bytes_eq f (codes "split") then Some SplitWord else (if bytes_eq f (codes "choose") then Some ChooseWord else (if bytes_eq f (codes "leaf") then Some LeafWord else None))
-
--- both or nothing
-abbrev pub and_pair : Option ℕ → Option ℤ → Option (ℕ × ℤ)
-and_pair None o = None
-and_pair (Some row) o = option_map (λ by. (row, by)) o
-
--- a row and its multiplier
-abbrev pub multiplier_of : Bool → Bytes → Bytes → Option (ℕ × ℤ)
-multiplier_of strict f g = and_pair (only_if (is_index strict) (natural f)) (only_if (is_positive strict) (integer g))
-
--- pairs of a row and its multiplier, to the end
-unfoldable pub multipliers : Bool → List Bytes → Option Multipliers
-multipliers strict [] = Some []
-multipliers strict (f ∷ []) = None
-multipliers strict (f ∷ g ∷ fs) = and_more (multiplier_of strict f g) (multipliers strict fs)
-
--- as many pairs as the count says, with rows that ascend
-unfoldable pub counted : Bool → ℕ → List Bytes → Option Multipliers
-counted strict count fs = only_if (λ mult. length mult == count && ascend mult) (multipliers strict fs)
-
--- what follows the word
-unfoldable pub node_rest : Bool → Bool → NodeWord → List Bytes → Option NodeOf
-node_rest strict refuting SplitWord fs = option_map (λ h. SplitNode h.0 h.1) (ended (pair (natural_read (is_index strict)) (integer_read (is_at strict)) fs))
-node_rest strict refuting ChooseWord fs = option_map (λ p. ChooseNode p) (ended (natural_read (is_index strict) fs))
-node_rest strict refuting LeafWord fs =
-    join_whole (λ h mult. ProofNode h.0 mult) (pair (integer_read (is_scale strict refuting)) (natural_read (is_index strict))) (λ h. counted strict h.1) fs
-
--- a node of a tree, which may be refuting
-unfoldable pub node_at : Bool → Bool → List Bytes → Option NodeOf
-node_at strict refuting = join_whole (λ w n. n) (one_read node_word) (node_rest strict refuting)
 
 -- the kind that has this name
 abbrev pub kind_named : Bytes → Option Kind
@@ -87,16 +50,35 @@ kind_at strict fs = ended (skip (codes "kind") (pair (one_read kind_named) (natu
 -- what the verdict's line says
 pub data VerdictLine : Type 0 where
   OfProfile : VerdictLine
+  OfCover : VerdictLine
   OfEmpty : ℕ → VerdictLine
+  OfBoxes : VerdictLine
 
 -- whether it is a profile
 abbrev pub verdict_line_word : Bytes → Option Bool
 verdict_line_word f = if bytes_eq f (codes "profile") then Some true else (if bytes_eq f (codes "none") then Some false else None)
 
--- what follows that word
+-- what shows that there is no equilibrium
+abbrev pub none_word : Bytes → Option NoneWord
+none_word f = or_else f (codes "cover") Cover (or_else f (codes "empty") Empty (or_else f (codes "boxes") Boxes None))
+
+abbrev pub none_word_text : NoneWord → Bytes
+none_word_text Cover = codes "cover"
+none_word_text Empty = codes "empty"
+none_word_text Boxes = codes "boxes"
+
+unfoldable pub none_rest : Bool → NoneWord → List Bytes → Option VerdictLine
+none_rest strict Cover fs = alone OfCover fs
+none_rest strict Empty fs = option_map (λ i. OfEmpty i) (ended (natural_read (is_index strict) fs))
+none_rest strict Boxes fs = alone OfBoxes fs
+
+unfoldable pub none_at : Bool → List Bytes → Option VerdictLine
+none_at strict = by_word none_word (none_rest strict)
+
+-- what follows the word after `verdict`
 unfoldable pub verdict_line_rest : Bool → Bool → List Bytes → Option VerdictLine
 verdict_line_rest strict true fs = alone OfProfile fs
-verdict_line_rest strict false fs = option_map (λ i. OfEmpty i) (ended (skip (codes "empty") (natural_read (is_index strict)) fs))
+verdict_line_rest strict false fs = none_at strict fs
 
 -- what the line of the verdict says
 unfoldable pub verdict_line_at : Bool → List Bytes → Option VerdictLine
@@ -113,13 +95,13 @@ unfoldable pub strategy_read : Bool → ℕ → Read MixtureOf
 strategy_read strict i =
     join_read (λ h parts. record { total = h.1.0; parts = parts }) (one_read (by_fields (player_at strict i))) (λ h ls. items_read (by_fields (part_at strict)) (λ p. 0) ls h.1.1)
 
--- nodes until the tree is whole
-unfoldable pub tree_read : Bool → Bool → Read (List NodeOf)
-tree_read strict refuting ls = items_read (by_fields (node_at strict refuting)) child_count ls 1
-
 -- player i's cost and its tree
 unfoldable pub bound_read : Bool → ℕ → Read BoundOf
-bound_read strict i = join_read (λ h tree. record { cost = ratio h.1.0 h.1.1; tree = tree }) (one_read (by_fields (cost_at strict i))) (λ h. tree_read strict false)
+bound_read strict i = join_read (λ h tree. record { cost = ratio h.1.0 h.1.1; tree = tree }) (one_read (by_fields (cost_at strict i))) (λ h. tree_read strict Proofs)
+
+-- a cover, and named points and rays
+unfoldable pub cover_read : Bool → Read (List NodeOf × List NamedOf)
+cover_read strict = join_read (λ tree items. (tree, items)) (tree_read strict Covered) (λ tree. named_read strict)
 
 -- the last line
 unfoldable pub end_read : Read Bytes
@@ -130,10 +112,23 @@ unfoldable pub profile_read : Bool → ℕ → Read VerdictOf
 profile_read strict players =
     join_read (λ mixtures bounds. ProfileVerdict mixtures bounds) (many_read (strategy_read strict) players 0) (λ m. many_read (bound_read strict) players 0)
 
+abbrev pub covers_in : List (List NodeOf × List NamedOf) → List (List NodeOf)
+covers_in cs = map (λ c. c.0) cs
+
+abbrev pub named_in : List (List NodeOf × List NamedOf) → List (List NamedOf)
+named_in cs = map (λ c. c.1) cs
+
+-- each player's cover with its points and rays, and then the refutation over the covers' leaves
+unfoldable pub cover_proof_read : Bool → ℕ → Read VerdictOf
+cover_proof_read strict players =
+    join_read (λ cs proof. CoverVerdict (covers_in cs) (named_in cs) proof) (many_read (λ i. cover_read strict) players 0) (λ cs. cases_read strict (map leaf_count (covers_in cs)))
+
 -- what follows the verdict's line
 unfoldable pub body_read : Bool → ℕ → VerdictLine → Read VerdictOf
 body_read strict players OfProfile = join_read (λ v e. v) (profile_read strict players) (λ v. end_read)
-body_read strict players (OfEmpty player) = join_read (λ tree e. EmptyVerdict player tree) (tree_read strict true) (λ tree. end_read)
+body_read strict players OfCover = join_read (λ v e. v) (cover_proof_read strict players) (λ v. end_read)
+body_read strict players (OfEmpty player) = join_read (λ tree e. EmptyVerdict player tree) (tree_read strict Refuted) (λ tree. end_read)
+body_read strict players OfBoxes = join_read (λ nodes e. BoxVerdict nodes) (boxes_read strict) (λ nodes. end_read)
 
 -- the verdict's line and what follows it
 unfoldable pub verdict_read : Bool → ℕ → Read VerdictOf

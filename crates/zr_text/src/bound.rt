@@ -11,13 +11,12 @@ ghost use Rattle.zr_text.specs.Code.{cost_numbers};
 ghost use Rattle.zr_text.specs.Fits.{is_lowest};
 ghost use Rattle.zr_text.specs.Reader.{bound_read, cost_at};
 
-use crate::field::{ended, index};
 use crate::loose::is_cost;
-use crate::tree::take_tree;
 use std::alloc::Global;
 use zr_base::{Frac, gcd};
 use zr_cert::Bound;
 use zr_form::{LineFault, ReadError, next_line, positive, signed, word};
+use zr_lines::{Ends, ended, index, take_tree};
 
 /// The fraction, if it is in lowest terms.
 fn lowest(num: i128, den: i128) -> Option<Frac>
@@ -70,7 +69,7 @@ fn take_bound(alloc: Global, bytes: &[u8], i: u32) -> Result<(Bound, &[u8]), Rea
     };
     match cost_line(line, i) {
         Err(fault) => Err(fault.at(bytes.len())),
-        Ok(cost) => match take_tree(alloc, rest, false) {
+        Ok(cost) => match take_tree(alloc, rest, Ends::Proofs) {
             Err(error) => Err(error),
             Ok((tree, rest)) => Ok((Bound { cost, tree }, rest)),
         },

@@ -8,19 +8,25 @@ ghost use Rattle.zr_form.specs.Reading.{one_read};
 ghost use Rattle.zr_form.specs.Stops.{Gives, ReadsLine};
 ghost use Rattle.zr_text.specs.Code.{GivesThis, IsThis, verdict_line_of};
 ghost use Rattle.zr_text.specs.Fits.{is_player_count};
-ghost use Rattle.zr_text.specs.Reader.{verdict_line_at, verdict_line_word, kind_at, kind_named, word_at};
+ghost use Rattle.zr_text.specs.Reader.{verdict_line_at, verdict_line_word, kind_at, kind_named, none_at, none_rest, word_at};
+ghost use Rattle.zr_text.specs.declared.words.NoneWord.TheVariants as a_word;
 
-use crate::field::{INDEX_LIMIT, ended};
 use crate::loose::{is_kind, is_verdict_line};
+use crate::words::{NoneWord, none_word};
 use zr_form::{LineFault, ReadError, next_field, next_line, small, word};
 use zr_game::Kind;
+use zr_lines::{INDEX_LIMIT, ended};
 
 /// What the verdict's line says.
 pub(crate) enum VerdictLine {
     /// A profile follows.
     Profile,
+    /// Covers and a refutation follow.
+    Cover,
     /// The player has no feasible point.
     Empty { player: u32 },
+    /// A box tree follows.
+    Boxes,
 }
 
 /// The kind, and what follows its name.
@@ -109,12 +115,52 @@ fn stated(line: &[u8]) -> Option<VerdictLine>
         ended(rest)?;
         return Some(VerdictLine::Profile);
     }
-    let rest = word(rest, b"empty")?;
-    let (player, rest) = small(rest, INDEX_LIMIT)?;
+    none(rest)
+}
+
+/// What shows that there is no equilibrium, within the upper bounds.
+fn none(left: Option<&[u8]>) -> Option<VerdictLine>
+    ensures { option_map verdict_line_of result ≡ none_at true (left_of (option_copied left.entry)) }
+{
+    let Some(line) = left else {
+        return None;
+    };
+    let (field, rest) = next_field(line);
+    let Some(word) = none_word(field) else {
+        return None;
+    };
+    match word {
+        NoneWord::Cover => cover(rest),
+        NoneWord::Empty => empty(rest),
+        NoneWord::Boxes => boxes(rest),
+    }
+}
+
+#[tactic(auto, unfolding(crate::specs::Reader::none_rest))]
+fn cover(left: Option<&[u8]>) -> Option<VerdictLine>
+    ensures { option_map verdict_line_of result ≡ none_rest true a_word.Cover (left_of (option_copied left.entry)) }
+{
+    ended(left)?;
+    Some(VerdictLine::Cover)
+}
+
+#[tactic(auto, unfolding(crate::specs::Reader::none_rest))]
+fn empty(left: Option<&[u8]>) -> Option<VerdictLine>
+    ensures { option_map verdict_line_of result ≡ none_rest true a_word.Empty (left_of (option_copied left.entry)) }
+{
+    let (player, rest) = small(left, INDEX_LIMIT)?;
     ended(rest)?;
     Some(VerdictLine::Empty {
         player: player as u32,
     })
+}
+
+#[tactic(auto, unfolding(crate::specs::Reader::none_rest))]
+fn boxes(left: Option<&[u8]>) -> Option<VerdictLine>
+    ensures { option_map verdict_line_of result ≡ none_rest true a_word.Boxes (left_of (option_copied left.entry)) }
+{
+    ended(left)?;
+    Some(VerdictLine::Boxes)
 }
 
 /// What the line of the verdict says.

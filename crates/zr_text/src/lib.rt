@@ -2,18 +2,16 @@
 #![tactic(auto)]
 
 mod bound;
+mod cover;
 mod fault;
-mod field;
 mod heading;
 mod laws;
 mod loose;
-mod loose_field;
-mod loose_node;
-mod node;
 mod reading;
 mod strategy;
-mod tree;
+mod words;
 mod writing;
+mod writing_lines;
 
 pub use fault::TextError;
 pub use laws::law_of_cert_texts;

@@ -1,22 +1,23 @@
 //! Whether a line is in the form where numbers have no upper bounds. No memory is taken.
 
 ghost use Rattle.std.specs.Prelude.{◌≡◌, ℤ, Some, false, is_some, option_copied};
-ghost use Rattle.zr_form.specs.Bounds.{is_narrow};
 ghost use Rattle.zr_form.specs.Code.{left_of};
-ghost use Rattle.zr_form.specs.Fields.{integers};
+ghost use Rattle.zr_form.specs.Fields.{natural_read};
 ghost use Rattle.zr_form.specs.Lines.{fields_of};
 ghost use Rattle.zr_form.specs.Numbers.{integer};
-ghost use Rattle.zr_text.specs.Fits.{is_lowest};
-ghost use Rattle.zr_text.specs.Reader.{verdict_line_at, cost_at, kind_at, part_at, player_at};
+ghost use Rattle.zr_text.specs.Fits.{is_lowest, is_player_count};
+ghost use Rattle.zr_text.specs.Reader.{verdict_line_at, cost_at, kind_at, none_at, none_rest, part_at, player_at};
+ghost use Rattle.zr_text.specs.declared.words.NoneWord.TheVariants as a_word;
+ghost use Rattle.zr_lines.specs.Code.{TakesAny};
 
-use crate::field::{ended, index};
 use crate::heading::{kind_name, verdict_line_name};
-use crate::loose_field::{
-    after_count, after_integer, after_natural, after_player_count, after_positive, spelled_integer,
+use crate::words::{NoneWord, none_word};
+use zr_base::gcd;
+use zr_form::{any_positive, next_field, number, word};
+use zr_lines::{
+    after_count, after_natural, after_positive, ended, index, is_point, spelled_integer,
     spelled_positive,
 };
-use zr_base::gcd;
-use zr_form::{any_integer, number, word};
 
 /// Whether it is the line of a part.
 #[tactic(auto, unfolding(crate::specs::Reader::part_at))]
@@ -29,27 +30,15 @@ pub(crate) fn is_part(line: &[u8]) -> bool
     let Some(rest) = after_positive(rest) else {
         return false;
     };
-    let Some(rest) = after_positive(rest) else {
-        return false;
-    };
-    let Some(rest) = after_integer(rest) else {
-        return false;
-    };
-    are_numbers(rest)
+    is_point(rest)
 }
 
-/// Whether numbers stand there to the end of the line.
-fn are_numbers(left: Option<&[u8]>) -> bool
-    ensures { result ≡ is_some (integers (is_narrow false) (left_of (option_copied left.entry))) }
+/// What follows a number of players, of at least 1.
+fn after_player_count(left: Option<&[u8]>) -> Option<Option<&[u8]>>
+    ensures { TakesAny left.entry result (natural_read (is_player_count false) (left_of (option_copied left.entry))) }
 {
-    let mut rest = left;
-    while let Some(line) = rest {
-        let Some((_, after)) = any_integer(Some(line)) else {
-            return false;
-        };
-        rest = after;
-    }
-    true
+    let (_, rest) = any_positive(left)?;
+    Some(rest)
 }
 
 /// Whether it is the line of player `i`.
@@ -139,11 +128,47 @@ pub(crate) fn is_verdict_line(line: &[u8]) -> bool
     if is_profile {
         return ended(rest).is_some();
     }
-    let Some(rest) = word(rest, b"empty") else {
+    is_none(rest)
+}
+
+/// Whether it tells what shows that there is no equilibrium.
+fn is_none(left: Option<&[u8]>) -> bool
+    ensures { result ≡ is_some (none_at false (left_of (option_copied left.entry))) }
+{
+    let Some(line) = left else {
         return false;
     };
-    let Some(rest) = after_natural(rest) else {
+    let (field, rest) = next_field(line);
+    let Some(word) = none_word(field) else {
+        return false;
+    };
+    match word {
+        NoneWord::Cover => is_cover(rest),
+        NoneWord::Empty => is_empty(rest),
+        NoneWord::Boxes => is_boxes(rest),
+    }
+}
+
+#[tactic(auto, unfolding(crate::specs::Reader::none_rest))]
+fn is_cover(left: Option<&[u8]>) -> bool
+    ensures { result ≡ is_some (none_rest false a_word.Cover (left_of (option_copied left.entry))) }
+{
+    ended(left).is_some()
+}
+
+#[tactic(auto, unfolding(crate::specs::Reader::none_rest))]
+fn is_empty(left: Option<&[u8]>) -> bool
+    ensures { result ≡ is_some (none_rest false a_word.Empty (left_of (option_copied left.entry))) }
+{
+    let Some(rest) = after_natural(left) else {
         return false;
     };
     ended(rest).is_some()
+}
+
+#[tactic(auto, unfolding(crate::specs::Reader::none_rest))]
+fn is_boxes(left: Option<&[u8]>) -> bool
+    ensures { result ≡ is_some (none_rest false a_word.Boxes (left_of (option_copied left.entry))) }
+{
+    ended(left).is_some()
 }

@@ -9,16 +9,17 @@ ghost use Rattle.zr_form.specs.Reading.{one_read};
 ghost use Rattle.zr_form.specs.Stops.{Gives};
 ghost use Rattle.zr_text.specs.Code.{GivesThis};
 ghost use Rattle.zr_text.specs.Faults.{IsText, IsTextFault};
-ghost use Rattle.zr_text.specs.Reader.{OfEmpty, OfProfile, body_read, cert_read, verdict_read, word_at};
+ghost use Rattle.zr_text.specs.Reader.{OfBoxes, OfCover, OfEmpty, OfProfile, body_read, cert_read, verdict_read, word_at};
 
 use crate::bound::take_bounds;
+use crate::cover::take_covers;
 use crate::fault::TextError;
 use crate::heading::{VerdictLine, take_kind, take_verdict_line, take_word};
 use crate::strategy::take_strategies;
-use crate::tree::take_tree;
 use std::alloc::Global;
-use zr_cert::{Cert, Verdict};
+use zr_cert::{Cert, Verdict, count_leaves};
 use zr_form::ReadError;
+use zr_lines::{Ends, take_box_tree, take_refutation, take_tree};
 use zr_mix::Profile;
 
 /// What follows the last line.
@@ -46,9 +47,44 @@ fn take_empty(alloc: Global, bytes: &[u8], player: u32) -> Result<(Verdict, &[u8
     requires { length bytes.now < 2 ^ 32 }
     ensures { (players : ℕ) → Gives verdict_of result (body_read true players (OfEmpty player) (lines_of bytes.now)) (body_read false players (OfEmpty player) (lines_of bytes.now)) }
 {
-    let (tree, rest) = take_tree(alloc, bytes, true)?;
+    let (tree, rest) = take_tree(alloc, bytes, Ends::Refuted)?;
     let rest = take_end(rest)?;
     Ok((Verdict::NoneEmpty { player, tree }, rest))
+}
+
+/// The covers with their named points and rays and the refutation over them, up to the last line,
+/// and what follows it.
+fn take_cover_proof(
+    alloc: Global,
+    bytes: &[u8],
+    players: u32,
+) -> Result<(Verdict, &[u8]), ReadError>
+    requires { length bytes.now < 2 ^ 32 }
+    ensures { Gives verdict_of result (body_read true players OfCover (lines_of bytes.now)) (body_read false players OfCover (lines_of bytes.now)) }
+{
+    let ((covers, named), rest) = take_covers(alloc, bytes, players)?;
+    let mut leaves = vec![in alloc; 0; covers.len()]?;
+    count_leaves(&covers, &mut leaves);
+    let (proof, rest) = take_refutation(alloc, rest, &leaves)?;
+    let rest = take_end(rest)?;
+    Ok((
+        Verdict::NoneCover {
+            covers,
+            named,
+            proof,
+        },
+        rest,
+    ))
+}
+
+/// The box tree, up to the last line, and what follows it.
+fn take_boxes(alloc: Global, bytes: &[u8]) -> Result<(Verdict, &[u8]), ReadError>
+    requires { length bytes.now < 2 ^ 32 }
+    ensures { (players : ℕ) → Gives verdict_of result (body_read true players OfBoxes (lines_of bytes.now)) (body_read false players OfBoxes (lines_of bytes.now)) }
+{
+    let (tree, rest) = take_box_tree(alloc, bytes)?;
+    let rest = take_end(rest)?;
+    Ok((Verdict::NoneBoxes { tree }, rest))
 }
 
 /// The verdict, up to the last line, and what follows it.
@@ -59,7 +95,9 @@ fn take_verdict(alloc: Global, bytes: &[u8], players: u32) -> Result<(Verdict, &
     let (said, rest) = take_verdict_line(bytes)?;
     match said {
         VerdictLine::Profile => take_profile(alloc, rest, players),
+        VerdictLine::Cover => take_cover_proof(alloc, rest, players),
         VerdictLine::Empty { player } => take_empty(alloc, rest, player),
+        VerdictLine::Boxes => take_boxes(alloc, rest),
     }
 }
 

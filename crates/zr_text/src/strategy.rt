@@ -1,67 +1,43 @@
 //! Strategies: a line for each player, and one for each part.
 
-ghost use Rattle.std.specs.Prelude.{◌≡◌, ◌∷◌, map, option_map, option_copied, IfOk, true, false, codes};
+ghost use Rattle.std.specs.Prelude.{◌≡◌, map, option_map, IfOk, Some, true, false, codes};
 ghost use Rattle.zr_mix.specs.Mixtures.{part_of};
 ghost use Rattle.zr_cert.specs.Certs.{mixture_of};
-ghost use Rattle.zr_form.specs.Bounds.{is_narrow, is_positive};
-ghost use Rattle.zr_form.specs.Code.{left_of};
-ghost use Rattle.zr_form.specs.Fields.{integer_read, integers, pair, skip};
+ghost use Rattle.zr_form.specs.Bounds.{is_positive};
+ghost use Rattle.zr_form.specs.Fields.{integer_read, skip};
 ghost use Rattle.zr_form.specs.Lines.{by_fields, fields_of, lines_of};
 ghost use Rattle.zr_form.specs.Reading.{items_read, many_read, one_read};
 ghost use Rattle.zr_form.specs.Stops.{Gives, ReadsLine};
-ghost use Rattle.zr_text.specs.Code.{BeginsThree};
+ghost use Rattle.zr_text.specs.Code.{Begins};
 ghost use Rattle.zr_text.specs.Reader.{part_at, player_at, strategy_read};
 
-use crate::field::{count, ended, index};
 use crate::loose::{is_part, is_player};
 use std::alloc::{AllocError, Global};
-use zr_base::Point;
-use zr_form::{LineFault, ReadError, next_field, next_line, number, positive, signed, word};
+use zr_form::{LineFault, ReadError, next_line, positive, word};
+use zr_lines::{count, ended, index, point};
 use zr_mix::{Part, Strategy};
 
-/// The weight, the denominator and the first number of a part, and what follows them.
-fn part_start(line: &[u8]) -> Option<(i128, i128, i128, Option<&[u8]>)>
-    ensures { BeginsThree result (skip (codes "part") (pair (integer_read (is_positive true)) (pair (integer_read (is_positive true)) (integer_read (is_narrow true)))) (fields_of line.now)) }
+/// The weight of a part, and what follows it.
+fn weight(line: &[u8]) -> Option<(i128, Option<&[u8]>)>
+    ensures { Begins result (skip (codes "part") (integer_read (is_positive true)) (fields_of line.now)) }
 {
     let rest = word(Some(line), b"part")?;
     let (weight, rest) = positive(rest)?;
-    let (den, rest) = positive(rest)?;
-    let (first, rest) = signed(rest)?;
-    Some((weight, den, first, rest))
-}
-
-/// This number and those to the end of the line.
-fn numbers(alloc: Global, first: i128, left: Option<&[u8]>) -> Result<Option<Vec<i128>>, AllocError>
-    ensures { IfOk result (λ o. option_map (λ v. v.items) o ≡ option_map (λ ns. first ∷ ns) (integers (is_narrow true) (left_of (option_copied left.entry)))) }
-{
-    let mut nums = Vec::new(alloc);
-    nums.push(first)?;
-    let mut rest = left;
-    while let Some(line) = rest {
-        let (field, after) = next_field(line);
-        let Some(n) = number(field) else {
-            return Ok(None);
-        };
-        nums.push(n)?;
-        rest = after;
-    }
-    Ok(Some(nums))
+    Some((weight, rest))
 }
 
 /// The part of the line, with numbers within the upper bounds.
+#[tactic(auto, unfolding(crate::specs::Reader::part_at))]
 fn part(alloc: Global, line: &[u8]) -> Result<Option<Part>, AllocError>
     ensures { IfOk result (λ o. option_map part_of o ≡ part_at true (fields_of line.now)) }
 {
-    let Some((weight, den, first, rest)) = part_start(line) else {
+    let Some((weight, rest)) = weight(line) else {
         return Ok(None);
     };
-    let Some(nums) = numbers(alloc, first, rest)? else {
+    let Some(point) = point(alloc, rest)? else {
         return Ok(None);
     };
-    match Point::new(nums, den) {
-        Ok(point) => Ok(Some(Part { weight, point })),
-        Err(_) => unreachable!(),
-    }
+    Ok(Some(Part { weight, point }))
 }
 
 /// The part of the line.

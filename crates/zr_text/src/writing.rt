@@ -1,23 +1,31 @@
 //! Certificates are written line after line, each at the end of the text so far.
 
-ghost use Rattle.std.specs.Prelude.{◌≡◌, ◌++◌, ◌∷◌, [], IfOk, OnOk, codes, map};
+ghost use Rattle.std.specs.Prelude.{◌≡◌, ◌++◌, ◌∷◌, [], ℕ, IfOk, OnOk, codes, length, map};
+ghost use Rattle.std.specs.List.{zip};
+ghost use Rattle.zr_game.specs.Named.{named_of};
+ghost use Rattle.zr_cases.specs.Cases.{rnode_of};
+ghost use Rattle.zr_cert.specs.Forms.{IsVerdictForm};
 ghost use Rattle.zr_mix.specs.Mixtures.{part_of};
-ghost use Rattle.zr_tree.specs.Nodes.{ChooseNode, KnownNode, ProofNode, SplitNode, node_of};
-ghost use Rattle.zr_cert.specs.Certs.{ProfileVerdict, bound_of, mixture_of, verdict_of};
+ghost use Rattle.zr_tree.specs.Nodes.{node_of};
+ghost use Rattle.zr_lines.specs.Spelling.{node_line, point_fields};
+ghost use Rattle.zr_cert.specs.Certs.{CoverVerdict, ProfileVerdict, bound_of, mixture_of, named_list, nodes_of, verdict_of};
 ghost use Rattle.zr_cert.specs.Listed.{cert_of};
 ghost use Rattle.zr_form.specs.Lines.{concat, spaced};
 ghost use Rattle.zr_form.specs.Numbers.{decimal, signed};
 ghost use Rattle.zr_form.specs.Reading.{spell_from};
 ghost use Rattle.zr_text.specs.Faults.{IsText};
-ghost use Rattle.zr_text.specs.Spelling.{body_lines, bound_lines, cost_line, empty_line, kind_line, multiplier_fields, node_line, part_line, player_line, point_fields, profile_line, strategy_lines, text_of, verdict_line};
+ghost use Rattle.zr_text.specs.Spelling.{body_lines, bound_lines, cost_line, cover_line, cover_lines, empty_line, kind_line, part_line, player_line, profile_line, strategy_lines, text_of, verdict_line};
 
+use crate::writing_lines::{
+    put_boxes, put_cases, put_integer_field, put_named, put_natural_field, put_point, put_tree,
+};
 use std::alloc::{AllocError, Global};
-use zr_base::{Frac, NoMemory, Point};
+use zr_base::{Frac, NoMemory};
+use zr_cases::RNode;
 use zr_cert::{Bound, Cert, Verdict};
-use zr_form::{put_integer, put_natural};
-use zr_game::Kind;
+use zr_game::{Kind, Named};
 use zr_mix::{Part, Strategy};
-use zr_tree::Node;
+use zr_tree::{Node, Tree};
 
 /// The text of a certificate (format `zero-cert/1`).
 ///
@@ -57,13 +65,23 @@ fn put_kind(alloc: Global, out: &mut Vec<u8>, kind: Kind, players: u32) -> Resul
 
 /// Writes the verdict's line, and the lines of what shows it.
 fn put_verdict(alloc: Global, out: &mut Vec<u8>, verdict: &Verdict) -> Result<(), AllocError>
+    requires { (players : ℕ) × IsVerdictForm players (verdict_of verdict.now) }
     ensures { OnOk result (out.new.items ≡ out.old.items ++ concat (verdict_line (verdict_of verdict.now) ∷ body_lines (verdict_of verdict.now))) }
 {
     match verdict {
         Verdict::Profile { profile, bounds } => {
             put_profile(alloc, out, &profile.strategies, bounds)
         }
+        Verdict::NoneCover {
+            covers,
+            named,
+            proof,
+        } => put_cover_proof(alloc, out, covers, named, &proof.nodes),
         Verdict::NoneEmpty { player, tree } => put_empty(alloc, out, *player, &tree.nodes),
+        Verdict::NoneBoxes { tree } => {
+            out.extend_from_slice(b"verdict none boxes\n".as_slice())?;
+            put_boxes(alloc, out, &tree.nodes)
+        }
     }
 }
 
@@ -94,6 +112,52 @@ fn put_empty(
     put_natural_field(alloc, out, u128::from(player))?;
     out.push(b'\n')?;
     put_tree(alloc, out, nodes)
+}
+
+/// Writes that there is no equilibrium by covers and a refutation, and what shows it. There are as
+/// many lists of named points and rays as covers.
+fn put_cover_proof(
+    alloc: Global,
+    out: &mut Vec<u8>,
+    covers: &[Tree],
+    named: &[Vec<Named>],
+    nodes: &[RNode],
+) -> Result<(), AllocError>
+    requires { length named.now ≡ length covers.now }
+    ensures { OnOk result (out.new.items ≡ out.old.items ++ concat (cover_line ∷ body_lines (CoverVerdict (map nodes_of covers.now) (map named_list named.now) (map rnode_of nodes.now)))) }
+{
+    out.extend_from_slice(b"verdict none cover\n".as_slice())?;
+    put_covers(alloc, out, covers, named)?;
+    put_cases(alloc, out, nodes)
+}
+
+/// Writes the lines of all covers, each with those of its named points and rays.
+fn put_covers(
+    alloc: Global,
+    out: &mut Vec<u8>,
+    covers: &[Tree],
+    named: &[Vec<Named>],
+) -> Result<(), AllocError>
+    requires { length named.now ≡ length covers.now }
+    ensures { OnOk result (out.new.items ≡ out.old.items ++ concat (spell_from cover_lines 0 (zip (map nodes_of covers.now) (map named_list named.now)))) }
+{
+    for i in 0..covers.len() {
+        put_cover(alloc, out, &covers[i], &named[i])?;
+    }
+    Ok(())
+}
+
+/// Writes the lines of a cover and of its named points and rays.
+fn put_cover(
+    alloc: Global,
+    out: &mut Vec<u8>,
+    cover: &Tree,
+    items: &[Named],
+) -> Result<(), AllocError>
+    ensures { (i : ℕ) → OnOk result (out.new.items ≡ out.old.items ++ concat (cover_lines i (nodes_of cover.now, map named_of items.now))) }
+{
+    put_tree(alloc, out, &cover.nodes)?;
+    put_named(alloc, out, items)
 }
 
 /// Writes the lines of all strategies.
@@ -205,113 +269,3 @@ fn put_cost(alloc: Global, out: &mut Vec<u8>, i: usize, cost: Frac) -> Result<()
     Ok(())
 }
 
-/// Writes the lines of a tree's nodes.
-fn put_tree(alloc: Global, out: &mut Vec<u8>, nodes: &[Node]) -> Result<(), AllocError>
-    ensures { OnOk result (out.new.items ≡ out.old.items ++ concat (map node_line (map node_of nodes.now))) }
-{
-    for node in nodes {
-        put_node(alloc, out, node)?;
-    }
-    Ok(())
-}
-
-fn put_node(alloc: Global, out: &mut Vec<u8>, node: &Node) -> Result<(), AllocError>
-    ensures { OnOk result (out.new.items ≡ out.old.items ++ node_line (node_of node.now)) }
-{
-    match node {
-        Node::Split { var, at } => put_split(alloc, out, *var, *at),
-        Node::Choose { pair } => put_choose(alloc, out, *pair),
-        Node::Leaf { scale, mult } => put_leaf(alloc, out, *scale, mult),
-        Node::Known { point } => put_known(alloc, out, point),
-        Node::Loose => out.extend_from_slice(b"loose\n".as_slice()),
-    }
-}
-
-fn put_split(alloc: Global, out: &mut Vec<u8>, var: u32, at: i64) -> Result<(), AllocError>
-    ensures { OnOk result (out.new.items ≡ out.old.items ++ node_line (SplitNode var at)) }
-{
-    out.extend_from_slice(b"split".as_slice())?;
-    put_natural_field(alloc, out, u128::from(var))?;
-    put_integer_field(alloc, out, i128::from(at))?;
-    out.push(b'\n')?;
-    Ok(())
-}
-
-fn put_choose(alloc: Global, out: &mut Vec<u8>, pair: u32) -> Result<(), AllocError>
-    ensures { OnOk result (out.new.items ≡ out.old.items ++ node_line (ChooseNode pair)) }
-{
-    out.extend_from_slice(b"choose".as_slice())?;
-    put_natural_field(alloc, out, u128::from(pair))?;
-    out.push(b'\n')?;
-    Ok(())
-}
-
-fn put_leaf(
-    alloc: Global,
-    out: &mut Vec<u8>,
-    scale: i128,
-    mult: &[(u32, i128)],
-) -> Result<(), AllocError>
-    ensures { OnOk result (out.new.items ≡ out.old.items ++ node_line (ProofNode scale mult.now)) }
-{
-    out.extend_from_slice(b"leaf".as_slice())?;
-    put_integer_field(alloc, out, scale)?;
-    put_natural_field(alloc, out, mult.len() as u128)?;
-    put_multipliers(alloc, out, mult)?;
-    out.push(b'\n')?;
-    Ok(())
-}
-
-fn put_known(alloc: Global, out: &mut Vec<u8>, point: &Point) -> Result<(), AllocError>
-    ensures { OnOk result (out.new.items ≡ out.old.items ++ node_line (KnownNode point.now)) }
-{
-    out.extend_from_slice(b"known".as_slice())?;
-    put_point(alloc, out, point)?;
-    out.push(b'\n')?;
-    Ok(())
-}
-
-/// Writes rows with their multipliers.
-fn put_multipliers(alloc: Global, out: &mut Vec<u8>, mult: &[(u32, i128)]) -> Result<(), AllocError>
-    ensures { OnOk result (out.new.items ≡ out.old.items ++ spaced (multiplier_fields mult.now)) }
-{
-    for (row, by) in mult {
-        put_natural_field(alloc, out, u128::from(*row))?;
-        put_integer_field(alloc, out, *by)?;
-    }
-    Ok(())
-}
-
-/// Writes a point's denominator, and then its numbers.
-fn put_point(alloc: Global, out: &mut Vec<u8>, point: &Point) -> Result<(), AllocError>
-    ensures { OnOk result (out.new.items ≡ out.old.items ++ spaced (point_fields point.now)) }
-{
-    put_integer_field(alloc, out, point.den())?;
-    put_numbers(alloc, out, point)
-}
-
-/// Writes a point's numbers.
-fn put_numbers(alloc: Global, out: &mut Vec<u8>, point: &Point) -> Result<(), AllocError>
-    ensures { OnOk result (out.new.items ≡ out.old.items ++ spaced (map signed point.now.num)) }
-{
-    for j in 0..point.len() {
-        put_integer_field(alloc, out, point.num(j))?;
-    }
-    Ok(())
-}
-
-/// Writes a space, and a number from 0 on.
-fn put_natural_field(alloc: Global, out: &mut Vec<u8>, n: u128) -> Result<(), AllocError>
-    ensures { OnOk result (out.new.items ≡ out.old.items ++ 32 ∷ decimal n) }
-{
-    out.push(b' ')?;
-    put_natural(alloc, out, n)
-}
-
-/// Writes a space and a number.
-fn put_integer_field(alloc: Global, out: &mut Vec<u8>, n: i128) -> Result<(), AllocError>
-    ensures { OnOk result (out.new.items ≡ out.old.items ++ 32 ∷ signed n) }
-{
-    out.push(b' ')?;
-    put_integer(alloc, out, n)
-}

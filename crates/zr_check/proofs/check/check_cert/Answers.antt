@@ -1,11 +1,12 @@
-use Rattle.std.proofs.Common.{arith, ◌≡◌, ◌∙◌, sym, ap, ap₂, length, map, List}
+use Rattle.std.proofs.Common.{arith, ◌≡◌, ◌∙◌, Err, refl, sym, ap, ap₂, length, map, List}
 use Rattle.std.proofs.lemmas.List.{length-map}
 use Rattle.std.proofs.lemmas.Result.{MatchResult-weaker, on_ok_weaker}
 use Rattle.zr_game.specs.Games.{game_of}
 use Rattle.zr_game.specs.Players.{player_of}
 use Rattle.zr_mix.specs.declared.mixture.Strategy.{Strategy}
 use Rattle.zr_cert.specs.declared.cert.Bound.{Bound}
-use Rattle.zr_cert.specs.Certs.{EmptyVerdict, ProfileVerdict, bound_of, mixture_of, nodes_of, verdict_of}
+use Rattle.zr_cert.specs.Certs.{BoxVerdict, CoverVerdict, EmptyVerdict, ProfileVerdict, bound_of, boxes_of, cases_of, mixture_of, named_list, nodes_of, verdict_of}
+use Rattle.zr_cert.specs.declared.fault.CertFault.TheVariants.{Bad}
 use Rattle.zr_cert.specs.Listed.{cert_of}
 use Rattle.zr_check.specs.Rooms.{RoomOf}
 use Rattle.zr_check.proofs.Answers.{exact_if, true_if}
@@ -60,3 +61,21 @@ returns-in-NoneEmpty-clause-exact c =
 pub returns-in-NoneEmpty-clause-sound : goal.returns-in-NoneEmpty-clause-sound
 returns-in-NoneEmpty-clause-sound c =
     true_if (game_of c.args.game.now) c.args.game.now.sound (cert_of c.args.cert.now) c.args.cert.now.sound c.check_empty.result (returns-in-NoneEmpty-clause-ok c)
+
+pub returns-in-NoneCover-clause-err : goal.returns-in-NoneCover-clause-err
+returns-in-NoneCover-clause-err c =
+    let cert = c.args.cert.now in
+    cert_refused (game_of c.args.game.now) cert.kind cert.players (count ((goal.at.returns-in-NoneCover-clause-err c).Else-cert-len)) cert.verdict (CoverVerdict (map nodes_of c.in-NoneCover.covers.items) (map named_list c.in-NoneCover.named.items) (cases_of c.in-NoneCover.proof)) (ap verdict_of c.in-NoneCover.is) (Bad 3) refl
+
+pub returns-in-NoneCover-clause-exact : goal.returns-in-NoneCover-clause-exact
+returns-in-NoneCover-clause-exact c =
+    exact_if (game_of c.args.game.now) c.args.game.now.sound (cert_of c.args.cert.now) c.args.cert.now.sound (Err (Bad 3)) tt (returns-in-NoneCover-clause-err c)
+
+pub returns-in-NoneBoxes-clause-err : goal.returns-in-NoneBoxes-clause-err
+returns-in-NoneBoxes-clause-err c =
+    let cert = c.args.cert.now in
+    cert_refused (game_of c.args.game.now) cert.kind cert.players (count ((goal.at.returns-in-NoneBoxes-clause-err c).Else-cert-len)) cert.verdict (BoxVerdict (boxes_of c.in-NoneBoxes.tree)) (ap verdict_of c.in-NoneBoxes.is) (Bad 3) refl
+
+pub returns-in-NoneBoxes-clause-exact : goal.returns-in-NoneBoxes-clause-exact
+returns-in-NoneBoxes-clause-exact c =
+    exact_if (game_of c.args.game.now) c.args.game.now.sound (cert_of c.args.cert.now) c.args.cert.now.sound (Err (Bad 3)) tt (returns-in-NoneBoxes-clause-err c)

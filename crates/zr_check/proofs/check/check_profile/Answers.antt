@@ -5,7 +5,7 @@ use Rattle.zr_game.specs.Games.{game_of}
 use Rattle.zr_game.specs.Players.{player_of}
 use Rattle.zr_mix.specs.declared.mixture.Strategy.{Strategy}
 use Rattle.zr_cert.specs.declared.fault.CertFault.TheVariants.{Bad}
-use Rattle.zr_cert.specs.Certs.{EmptyVerdict, mixture_of, nodes_of, verdict_of}
+use Rattle.zr_cert.specs.Certs.{BoxVerdict, CoverVerdict, EmptyVerdict, boxes_of, cases_of, mixture_of, named_list, nodes_of, verdict_of}
 use Rattle.zr_cert.specs.Listed.{cert_of}
 use Rattle.zr_check.specs.Parts.{StrategiesPass, StrategiesRefused}
 use Rattle.zr_check.proofs.Answers.{head_if}
@@ -48,4 +48,20 @@ returns-in-NoneEmpty-clause-exact c =
     let players = count ((goal.at.returns-in-NoneEmpty-clause-exact c).Else-cert-len) in
     let verdict = EmptyVerdict c.in-NoneEmpty.player (nodes_of c.in-NoneEmpty.tree) in
     let refused = head_refused game cert.kind cert.players players cert.verdict verdict (ap verdict_of c.in-NoneEmpty.is) (Bad 3) refl in
+    head_if game c.args.game.now.sound (cert_of cert) cert.sound (Err (Bad 3)) tt refused
+
+pub returns-in-NoneCover-clause-exact : goal.returns-in-NoneCover-clause-exact
+returns-in-NoneCover-clause-exact c =
+    let game = game_of c.args.game.now in
+    let cert = c.args.cert.now in
+    let players = count ((goal.at.returns-in-NoneCover-clause-exact c).Else-cert-len) in
+    let refused = head_refused game cert.kind cert.players players cert.verdict (CoverVerdict (map nodes_of c.in-NoneCover.covers.items) (map named_list c.in-NoneCover.named.items) (cases_of c.in-NoneCover.proof)) (ap verdict_of c.in-NoneCover.is) (Bad 3) refl in
+    head_if game c.args.game.now.sound (cert_of cert) cert.sound (Err (Bad 3)) tt refused
+
+pub returns-in-NoneBoxes-clause-exact : goal.returns-in-NoneBoxes-clause-exact
+returns-in-NoneBoxes-clause-exact c =
+    let game = game_of c.args.game.now in
+    let cert = c.args.cert.now in
+    let players = count ((goal.at.returns-in-NoneBoxes-clause-exact c).Else-cert-len) in
+    let refused = head_refused game cert.kind cert.players players cert.verdict (BoxVerdict (boxes_of c.in-NoneBoxes.tree)) (ap verdict_of c.in-NoneBoxes.is) (Bad 3) refl in
     head_if game c.args.game.now.sound (cert_of cert) cert.sound (Err (Bad 3)) tt refused

@@ -10,7 +10,7 @@ use Rattle.zr_text.specs.Fits.{FitsBound}
 use Rattle.zr_text.specs.Reader.{bound_read}
 use Rattle.zr_text.specs.Spelling.{bound_lines}
 use Rattle.zr_text.proofs.Players.{bound_form}
-use Rattle.zr_text.proofs.TextSteps.{left_within}
+use Rattle.zr_lines.proofs.TextSteps.{left_within}
 use Rattle.zr_text.proofs.bound.take_bounds.Goals as goal
 
 pub returns-in_err-bound : goal.returns-in_err-bound

@@ -5,8 +5,8 @@ use Rattle.zr_form.specs.Bounds.{below}
 use Rattle.zr_form.specs.Code.{left_of}
 use Rattle.zr_form.proofs.Words.{both_true}
 use Rattle.zr_text.specs.Fits.{is_player_count}
-use Rattle.zr_text.proofs.Limits.{both}
-use Rattle.zr_text.proofs.OtherTests.{natural_fails, natural_lacks, natural_passed, natural_passes}
+use Rattle.zr_lines.proofs.Limits.{both}
+use Rattle.zr_lines.proofs.OtherTests.{natural_fails, natural_lacks, natural_passed, natural_passes}
 use Rattle.zr_text.proofs.heading.player_count.Goals as goal
 
 fails_second : (a b : Bool) → b ≡ false → (a && b) ≡ false

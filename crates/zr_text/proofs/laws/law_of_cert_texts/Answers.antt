@@ -12,5 +12,5 @@ returns c = record {
   fault_is_one = one_fault;
   decided = text_or_fault;
   kept = λ d. (λ h. (cert_tells d h, h.few), λ h. cert_told d h.0 h.1);
-  lines = λ d f. ap length (text_lines true d f) ∙ as_many_lines d;
+  lines = λ d f. ap length (text_lines true d f) ∙ as_many_lines d f;
 }

@@ -5,7 +5,7 @@ use Rattle.zr_form.specs.Lines.{by_fields, lines_of}
 use Rattle.zr_text.specs.Reader.{kind_at, word_at}
 use Rattle.zr_text.proofs.Places.{cert_made}
 use Rattle.zr_text.proofs.ReadingSteps.{cert_no_kind, cert_no_verdict, cert_no_word, cert_taken, cert_with}
-use Rattle.zr_text.proofs.TextSteps.{one_left}
+use Rattle.zr_lines.proofs.TextSteps.{one_left}
 use Rattle.zr_text.proofs.reading.take_cert.Goals as goal
 
 pub returns-in_err-rest : goal.returns-in_err-rest

@@ -7,7 +7,7 @@ use Rattle.zr_form.proofs.Forms.{ManyFit}
 use Rattle.zr_text.specs.Fits.{FitsMixture}
 use Rattle.zr_text.specs.Spelling.{strategy_lines}
 use Rattle.zr_text.proofs.ReadingSteps.{profile_ended, profile_no_bounds, profile_no_end, profile_no_strategies, profile_taken, strategies_form, strategies_read}
-use Rattle.zr_text.proofs.TextSteps.{left_within}
+use Rattle.zr_lines.proofs.TextSteps.{left_within}
 use Rattle.zr_text.proofs.reading.take_profile.Goals as goal
 
 pub returns-in_err-strategies : goal.returns-in_err-strategies

@@ -1,0 +1,17 @@
+pub mod Looser
+pub mod Limits
+pub mod OtherTests
+pub mod TreeTests
+pub mod Worded
+pub mod Multipliers
+pub mod Points
+pub mod Nodes
+pub mod Named
+pub mod Cases
+pub mod Boxes
+pub mod NodeSteps
+pub mod PointSteps
+pub mod LooseSteps
+pub mod LineLooser
+pub mod TextSteps
+pub mod Kept

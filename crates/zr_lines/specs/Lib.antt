@@ -1,0 +1,5 @@
+pub mod Spelling
+pub mod Fits
+pub mod Words
+pub mod Reader
+pub mod Code

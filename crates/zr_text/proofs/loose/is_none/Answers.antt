@@ -1,0 +1,50 @@
+use Rattle.std.proofs.Common.{◌≡◌, ◌∙◌, ap, sym, false, Option, Some, None, Bor}
+use Rattle.std.specs.Prelude.{is_some, option_copied}
+use Rattle.zr_form.specs.Code.{left_of}
+use Rattle.zr_form.specs.Reading.{Bytes}
+use Rattle.zr_form.proofs.Parsing.{fields_first}
+use Rattle.zr_lines.proofs.Worded.{word_absent, word_known, word_unknown}
+use Rattle.zr_text.specs.declared.words.NoneWord.TheVariants.{Cover, Empty, Boxes}
+use Rattle.zr_text.specs.Reader.{none_at, none_rest, none_word}
+use Rattle.zr_text.proofs.loose.is_none.Goals as goal
+
+pub returns-in_default : goal.returns-in_default
+unfolding none_at
+returns-in_default c =
+    ap is_some (sym (word_absent none_word (none_rest false) (left_of (option_copied c.args.left)) (ap (λ (o : Option (Bor Bytes)). left_of (option_copied o)) c.in_default.is)))
+
+pub returns-in_default-none_word : goal.returns-in_default-none_word
+unfolding none_at
+returns-in_default-none_word c =
+    let f = c.next_field.result.0.now in
+    let gs = left_of (option_copied c.next_field.result.1) in
+    let fs = left_of (option_copied c.args.left) in
+    let cut = ap (λ (o : Option (Bor Bytes)). left_of (option_copied o)) c.in-Some.is ∙ fields_first c.in-Some.line.now f c.next_field.result.1 c.next_field.ensures.before c.next_field.ensures.after in
+    ap is_some (sym (word_unknown none_word (none_rest false) fs f gs cut (sym c.in_default-none_word.ensures)))
+
+pub returns-in-Cover : goal.returns-in-Cover
+unfolding none_at
+returns-in-Cover c =
+    let f = c.next_field.result.0.now in
+    let gs = left_of (option_copied c.next_field.result.1) in
+    let fs = left_of (option_copied c.args.left) in
+    let cut = ap (λ (o : Option (Bor Bytes)). left_of (option_copied o)) c.in-Some.is ∙ fields_first c.in-Some.line.now f c.next_field.result.1 c.next_field.ensures.before c.next_field.ensures.after in
+    c.is_cover.ensures ∙ ap is_some (sym (word_known none_word (none_rest false) fs f gs cut Cover (sym c.in-Some-none_word.ensures ∙ ap Some c.in-Cover.is)))
+
+pub returns-in-Empty : goal.returns-in-Empty
+unfolding none_at
+returns-in-Empty c =
+    let f = c.next_field.result.0.now in
+    let gs = left_of (option_copied c.next_field.result.1) in
+    let fs = left_of (option_copied c.args.left) in
+    let cut = ap (λ (o : Option (Bor Bytes)). left_of (option_copied o)) c.in-Some.is ∙ fields_first c.in-Some.line.now f c.next_field.result.1 c.next_field.ensures.before c.next_field.ensures.after in
+    c.is_empty.ensures ∙ ap is_some (sym (word_known none_word (none_rest false) fs f gs cut Empty (sym c.in-Some-none_word.ensures ∙ ap Some c.in-Empty.is)))
+
+pub returns-in-Boxes : goal.returns-in-Boxes
+unfolding none_at
+returns-in-Boxes c =
+    let f = c.next_field.result.0.now in
+    let gs = left_of (option_copied c.next_field.result.1) in
+    let fs = left_of (option_copied c.args.left) in
+    let cut = ap (λ (o : Option (Bor Bytes)). left_of (option_copied o)) c.in-Some.is ∙ fields_first c.in-Some.line.now f c.next_field.result.1 c.next_field.ensures.before c.next_field.ensures.after in
+    c.is_boxes.ensures ∙ ap is_some (sym (word_known none_word (none_rest false) fs f gs cut Boxes (sym c.in-Some-none_word.ensures ∙ ap Some c.in-Boxes.is)))

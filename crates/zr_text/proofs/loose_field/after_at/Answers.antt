@@ -1,8 +1,0 @@
-use Rattle.zr_text.proofs.LooseSteps.{at_found, at_missing}
-use Rattle.zr_text.proofs.loose_field.after_at.Goals as goal
-
-pub returns-in_err-rest : goal.returns-in_err-rest
-returns-in_err-rest c = rw c.from_residual.ensures (at_missing c.args.left c.in_err-rest.ensures)
-
-pub returns : goal.returns
-returns c = at_found c.args.left c.in_ok-rest.field-0-0 c.in_ok-rest.rest c.in_ok-rest.ensures

@@ -1,7 +1,0 @@
-use Rattle.std.proofs.Common.{◌≡◌, drop}
-use Rattle.zr_text.specs.Fits.{ascend, ascend_from}
-use Rattle.zr_text.proofs.node.ascends.Given as goal
-
--- the slots that are left ascend from the least that is allowed where all of them ascend
-abbrev pub invariant-loop-slot : goal.invariant-loop-slot
-invariant-loop-slot l = ascend_from l.least (drop l.slot-index l.mult) ≡ ascend l.mult

@@ -1,7 +1,0 @@
-use Rattle.std.proofs.Common.{◌≡◌, ◌++◌, take}
-use Rattle.zr_form.specs.Lines.{spaced}
-use Rattle.zr_text.specs.Spelling.{multiplier_fields}
-use Rattle.zr_text.proofs.writing.put_multipliers.Given as goal
-
-abbrev pub invariant-loop-row : goal.invariant-loop-row
-invariant-loop-row l = l.out.items ≡ l.fn.out.items ++ spaced (multiplier_fields (take l.row-index l.mult))
