@@ -1,5 +1,5 @@
 -- Lists of means and slopes that were made in whole.
-use Rattle.std.proofs.Common.{◌≡◌, ℕ, zero, suc, ◌+◌, ◌<◌, arith, refl, sym, ap, subst, ◌∙◌, pos, Result, Ok, Some, List, [], ◌∷◌, ◌++◌, length, get_or, slice_get, take, drop, All}
+use Rattle.std.proofs.Common.{◌≡◌, ℕ, zero, suc, ◌+◌, ◌<◌, arith, sym, ap, subst, ◌∙◌, pos, Result, Ok, Some, List, [], ◌∷◌, ◌++◌, length, slice_get, take, drop, All}
 use Rattle.std.proofs.lemmas.List.{drop-drop, drop_at, get_or-drop, get_or-take, get_or-map, take_at}
 use Rattle.std.proofs.lemmas.Option.{get_or_from_slice_get, slice_get_within}
 use Rattle.zr_base.specs.declared.step.Wide.{Wide}

@@ -21,7 +21,7 @@ use Rattle.zr_tree.proofs.PassLaws.{passes_if}
 use Rattle.zr_cert.specs.Certs.{BoundOf, BoxVerdict, CertOf, CoverVerdict, EmptyVerdict, MixtureOf, ProfileVerdict, VerdictOf, profile_with}
 use Rattle.zr_cert.specs.Forms.{IsBoundForm, IsCert, IsMixtureForm, IsVerdictForm}
 use Rattle.zr_check.specs.Right.{AreRightStrategies, IsRightBound, IsRightCert, IsRightHead, IsRightProfile, IsRightVerdict}
-use Rattle.zr_check.specs.Parts.{IsOfLength, IsWidePart, StrategiesPass, mean_list}
+use Rattle.zr_check.specs.Parts.{IsWidePart, StrategiesPass, mean_list}
 use Rattle.zr_check.specs.Bounds.{BoundPasses, BoundsPass, IsCostMade, TreePasses, all_means, cost_steps, no_point}
 use Rattle.zr_check.specs.Checks.{CertPasses, HeadPasses, ProfilePasses, VerdictPasses}
 use Rattle.zr_check.specs.WideSteps.{HasWidePart, HasWideStep, HeadIsWide, IsWideTree, VerdictIsWide}
@@ -58,20 +58,21 @@ alone_if kind mixtures of_kind i m found pure =
     all_found (λ (other : MixtureOf). length other.parts ≡ 1) mixtures i m (All-of_map (λ (other : MixtureOf). other.parts) (λ (parts : Strategy). length parts ≡ 1) mixtures (subst (λ (k : Kind). IsOfKind k (profile_with mixtures)) pure of_kind)) found
 
 module _ (game : GameOf) (kind : Kind) (mixtures : List MixtureOf) (right : AreRightStrategies game kind mixtures) (narrow : HasWidePart game mixtures → ⊥) where
-  narrow_part : (i : ℕ) (player : PlayerOf) → IsPlayer game i player → (m : MixtureOf) → slice_get mixtures i ≡ Some m → (k : ℕ) (part : Part) → slice_get m.parts k ≡ Some part → IsOfLength player part → IsWidePart player m k part → ⊥
-  narrow_part i player is m found k part here len wide =
-      narrow (record { i = i; player = player; is_player = is; mixture = m; is_mixture = found; k = k; part = part; is_part = here; of_length = len; wide = wide })
-
   strategy_valid : (i : ℕ) (player : PlayerOf) → IsPlayer game i player → (m : MixtureOf) → slice_get mixtures i ≡ Some m → IsStrategy player m.parts
   strategy_valid i player is m found =
       subst (IsStrategy player) (strategy_is mixtures i m found) (right.valid.strategies i player is)
+
+  narrow_part : (i : ℕ) (player : PlayerOf) → IsPlayer game i player → (m : MixtureOf) → slice_get mixtures i ≡ Some m → (k : ℕ) (part : Part) → slice_get m.parts k ≡ Some part → IsWidePart player m k part → ⊥
+  narrow_part i player is m found k part here wide =
+      let feasible = all_found (λ (other : Part). IsFeasible player other.point) m.parts k part (strategy_valid i player is m found).points here in
+      narrow (record { i = i; player = player; is_player = is; mixture = m; is_mixture = found; k = k; part = part; is_part = here; of_length = feasible.len; wide = wide })
 
   pub strategies_pass : StrategiesPass game kind mixtures
   strategies_pass i player is m found k part here =
       let s = strategy_valid i player is m found in
       let feasible = all_found (λ (other : Part). IsFeasible player other.point) m.parts k part s.points here in (
         feasible.len,
-        narrow_part i player is m found k part here feasible.len,
+        narrow_part i player is m found k part here,
         record {
           feasible = feasible;
           alone = λ pure. let one = alone_if kind mixtures right.of_kind i m found pure in let h = slice_get_within m.parts k part here in omega (arith, one, h);

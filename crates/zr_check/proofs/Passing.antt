@@ -18,7 +18,7 @@ use Rattle.zr_tree.specs.Steps.{HasWideProof, IsWideForRow}
 use Rattle.zr_tree.proofs.Forests.{same_tree}
 use Rattle.zr_tree.proofs.PassLaws.{right_if}
 use Rattle.zr_cert.specs.Certs.{BoundOf, BoxVerdict, CertOf, CoverVerdict, EmptyVerdict, MixtureOf, ProfileVerdict, VerdictOf, profile_with}
-use Rattle.zr_cert.specs.Forms.{IsBoundForm, IsCert, IsEmptyNode, IsMixtureForm, IsTreeWith, IsVerdictForm}
+use Rattle.zr_cert.specs.Forms.{IsCert, IsEmptyNode, IsMixtureForm, IsTreeWith, IsVerdictForm}
 use Rattle.zr_check.specs.Right.{AreRightStrategies, IsRightBound, IsRightCert, IsRightProfile, IsRightVerdict, IsEmptyTree, IsRowTree}
 use Rattle.zr_check.specs.Truth.{IsTrueVerdict}
 use Rattle.zr_check.specs.Parts.{PartPasses, StrategiesPass}

@@ -4,7 +4,7 @@ use Rattle.std.proofs.lemmas.Int.{ints}
 use Rattle.std.proofs.lemmas.List.Elements.{All-cons, All-head, All-nil, All-tail}
 use Rattle.zr_game.specs.declared.leaf.Side.TheVariants.{VarZero, RowZero}
 use Rattle.zr_game.specs.Players.{PlayerOf}
-use Rattle.zr_game.specs.Leaves.{Bound, BoundHolds, LeafOf, above, below, decided, slots}
+use Rattle.zr_game.specs.Leaves.{Bound, LeafOf, above, below, decided, slots}
 use Rattle.zr_tree.specs.Nodes.{ChooseNode, ProofNode, SplitNode}
 use Rattle.zr_tree.specs.Trees.{TreeOf, Split, Choose, Proof, Known, Loose, preorder}
 use Rattle.zr_tree.specs.Right.{IsRefuted, IsRefuting, IsRight, IsScaled}

@@ -1,5 +1,5 @@
 -- What a right certificate claims is true.
-use Rattle.std.proofs.Common.{ℕ, arith, sym, subst, List, [], ◌∷◌, All}
+use Rattle.std.proofs.Common.{ℕ, arith, List, [], ◌∷◌}
 use Rattle.std.proofs.lemmas.List.Elements.{All-head}
 use Rattle.zr_base.specs.Points.{PointOf}
 use Rattle.zr_game.specs.declared.kind.Kind.{Kind}
@@ -11,7 +11,7 @@ use Rattle.zr_game.specs.Players.{GameOf, PlayerOf}
 use Rattle.zr_game.specs.Profiles.{IsStrategy, Strategy, strategy_of}
 use Rattle.zr_tree.specs.Nodes.{NodeOf}
 use Rattle.zr_tree.specs.Right.{IsRight}
-use Rattle.zr_tree.specs.Trees.{TreeOf, preorder}
+use Rattle.zr_tree.specs.Trees.{TreeOf}
 use Rattle.zr_tree.proofs.Descent.{holds_at_root, none_at_root}
 use Rattle.zr_mix.specs.Checks.{HasClaims}
 use Rattle.zr_mix.proofs.Checking.{enough}

@@ -32,3 +32,6 @@ pub use loose_point::is_point;
 pub use named_lines::take_named;
 pub use point_fields::point;
 pub use tree::take_tree;
+
+#[cfg(test)]
+mod tests;

@@ -1,8 +1,8 @@
 -- The rules that a certificate keeps say that it has a text.
-use Rattle.std.proofs.Common.{◌≡◌, ℕ, ◌+◌, ◌^◌, ◌<◌, Bool, true, List, map, length, refl, subst, arith, ℤ, unsigned_abs}
+use Rattle.std.proofs.Common.{◌≡◌, ℕ, ◌+◌, ◌^◌, ◌<◌, true, List, map, length, refl, subst, arith, unsigned_abs}
 use Rattle.std.proofs.lemmas.List.{length-map}
 use Rattle.std.specs.Prelude.{nat_le, nat_lt}
-use Rattle.std.specs.List.{All, AllByRecursion}
+use Rattle.std.specs.List.{AllByRecursion}
 use Rattle.std.proofs.lemmas.Bool.{le-leb, leb-true, lt-ltb, ltb-true}
 use Rattle.std.proofs.lemmas.List.Elements.{All-from_recursion, recursion_from_All}
 use Rattle.std.specs.Int.{IsGcd}
@@ -12,7 +12,7 @@ use Rattle.zr_base.proofs.Gcds.{gcd_of_is}
 use Rattle.zr_game.specs.Named.{NamedOf}
 use Rattle.zr_game.specs.Profiles.{Part}
 use Rattle.zr_tree.specs.Nodes.{NodeOf}
-use Rattle.zr_cases.specs.Cases.{BNodeOf, RNodeOf}
+use Rattle.zr_cases.specs.Cases.{RNodeOf}
 use Rattle.zr_cert.specs.Certs.{BoundOf, BoxVerdict, CertOf, CoverVerdict, EmptyVerdict, MixtureOf, ProfileVerdict, VerdictOf}
 use Rattle.zr_cert.specs.Forms.{AreNamed, IsBoundForm, IsBoundNode, IsCert, IsCoverForm, IsCoverNode, IsEmptyNode, IsMixtureForm, IsPartForm, IsTreeWith, IsVerdictForm, leaf_count}
 use Rattle.zr_cert.specs.Lines.{bound_lines as bound_count, line_count, mixture_lines as mixture_count, named_lines as named_count, sum_lines, tree_lines}

@@ -1,5 +1,5 @@
 -- What a line is read as within the upper bounds it is read as without them.
-use Rattle.std.proofs.Common.{◌≡◌, ℕ, ℤ, Bool, true, false, List, ◌∷◌, Some, refl}
+use Rattle.std.proofs.Common.{◌≡◌, ℕ, ℤ, true, false, List, ◌∷◌, Some, refl}
 use Rattle.std.specs.Prelude.{codes}
 use Rattle.zr_game.specs.declared.kind.Kind.{Kind}
 use Rattle.zr_game.specs.Profiles.{Part}

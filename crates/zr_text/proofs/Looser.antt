@@ -1,6 +1,5 @@
 -- What fits within the upper bounds fits without them.
-use Rattle.std.proofs.Common.{◌≡◌, ℕ, true, false, List, map, refl}
-use Rattle.std.specs.List.{AllByRecursion}
+use Rattle.std.proofs.Common.{ℕ, true, false, map, refl}
 use Rattle.zr_game.specs.Profiles.{Part}
 use Rattle.zr_cert.specs.Certs.{BoundOf, BoxVerdict, CertOf, CoverVerdict, EmptyVerdict, MixtureOf, ProfileVerdict, VerdictOf}
 use Rattle.zr_cert.specs.Forms.{leaf_count}

@@ -1,7 +1,6 @@
 -- The lines of a strategy and of a bound are forms.
-use Rattle.std.proofs.Common.{◌≡◌, ℕ, ◌<◌, Bool, true, false, ◌==◌, List, [], ◌∷◌, ◌++◌, map, length, sym, refl, ap, ◌∙◌, subst, arith, ℤ, pos}
+use Rattle.std.proofs.Common.{◌≡◌, ℕ, Bool, true, false, ◌==◌, List, [], ◌∷◌, ◌++◌, map, length, sym, refl, ap, ◌∙◌, subst, arith, ℤ, pos}
 use Rattle.std.specs.Prelude.{codes}
-use Rattle.std.specs.List.{AllByRecursion}
 use Rattle.std.proofs.lemmas.Bool.{eq-eqb, eqb-true}
 use Rattle.zr_base.specs.Fractions.{ratio}
 use Rattle.zr_base.specs.Points.{PointOf}
@@ -10,11 +9,11 @@ use Rattle.zr_game.specs.Profiles.{Part}
 use Rattle.zr_tree.specs.Nodes.{NodeOf}
 use Rattle.zr_cert.specs.Certs.{BoundOf, MixtureOf}
 use Rattle.zr_form.specs.Bounds.{Passes, is_count, is_narrow, is_positive}
-use Rattle.zr_form.specs.Fields.{ended, integer_read, integers, natural_read, pair, skip}
+use Rattle.zr_form.specs.Fields.{ended, integer_read, natural_read, pair, skip}
 use Rattle.zr_form.specs.Lines.{by_fields, line_with}
 use Rattle.zr_form.specs.Numbers.{decimal, signed}
 use Rattle.zr_form.specs.Reading.{Bytes, items_read, one_read}
-use Rattle.zr_form.proofs.Fields.{ended_whole, integer_exact, integers_whole, join_whole_form, natural_exact, only_whole}
+use Rattle.zr_form.proofs.Fields.{ended_whole, integer_exact, join_whole_form, natural_exact, only_whole}
 use Rattle.zr_form.proofs.Forms.{IsForm, IsOne, ItemsFit, items_form, items_some, join_form, one_form}
 use Rattle.zr_form.proofs.Lines.{IsLine, IsWhole, line_form}
 use Rattle.zr_form.proofs.Words.{closes_all, closes_length, pair_exact, skip_exact}

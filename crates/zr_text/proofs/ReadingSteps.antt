@@ -18,7 +18,7 @@ use Rattle.zr_lines.specs.declared.ends.Ends.TheVariants.{Refuted}
 use Rattle.zr_lines.specs.Reader.{boxes_read, cases_read, tree_read}
 use Rattle.zr_lines.proofs.TextSteps.{boxes_shrinks, cases_shrinks, tree_shrinks}
 use Rattle.zr_text.specs.Fits.{FitsBound, FitsMixture}
-use Rattle.zr_text.specs.Reader.{VerdictLine, OfBoxes, OfCover, OfEmpty, OfProfile, body_read, bound_read, cert_read, cover_proof_read, cover_read, covers_in, named_in, verdict_line_at, end_read, kind_at, kind_read, profile_read, strategy_read, verdict_read, word_at}
+use Rattle.zr_text.specs.Reader.{VerdictLine, OfBoxes, OfCover, OfEmpty, OfProfile, body_read, bound_read, cert_read, cover_proof_read, covers_in, named_in, verdict_line_at, end_read, kind_at, kind_read, profile_read, strategy_read, verdict_read, word_at}
 use Rattle.zr_text.specs.Spelling.{bound_lines, cover_lines, strategy_lines}
 use Rattle.zr_text.proofs.Covers.{CoverOf, CoversFit, covers_form, covers_read}
 use Rattle.zr_text.proofs.Players.{bound_form, strategy_form, strategy_some}

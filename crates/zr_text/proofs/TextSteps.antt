@@ -1,5 +1,5 @@
 -- What was read of strategies, bounds and covers.
-use Rattle.std.proofs.Common.{◌≡◌, ℕ, ℤ, ◌<◌, Some, None, Ok, true, false, Bool, List, ◌∷◌, ◌++◌, [], map, length, ap, arith, sym, ◌∙◌}
+use Rattle.std.proofs.Common.{◌≡◌, ℕ, ℤ, ◌<◌, Some, None, Ok, true, false, Bool, List, length, ap, arith}
 use Rattle.std.specs.Prelude.{bytes_eq, if◌then◌else◌}
 use Rattle.zr_base.specs.Fractions.{ratio}
 use Rattle.zr_game.specs.Named.{NamedOf}
@@ -11,7 +11,7 @@ use Rattle.zr_form.specs.Fields.{integer_read, word_read}
 use Rattle.zr_form.specs.Lines.{by_fields}
 use Rattle.zr_form.specs.Reading.{Bytes, Read, items_read, one_read}
 use Rattle.zr_form.specs.Stops.{Stopped}
-use Rattle.zr_form.proofs.Composing.{Both, Shrinks, form_shrinks, items_shrinks, join_first, join_ok, join_second}
+use Rattle.zr_form.proofs.Composing.{Both, items_shrinks, join_first, join_ok, join_second}
 use Rattle.zr_lines.specs.declared.ends.Ends.TheVariants.{Proofs, Covered}
 use Rattle.zr_lines.specs.Reader.{named_read, tree_read}
 use Rattle.zr_lines.proofs.OtherTests.{integer_front, one_front}

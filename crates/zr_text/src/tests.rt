@@ -189,7 +189,10 @@ fn again(alloc: Global, text: &[u8]) -> Result<Vec<u8>, Fail> {
 
 #[test]
 fn certificates_are_read_and_written_again(rt: HostRuntime) -> Result<(), Fail> {
-    assert_eq!(rt; again(rt.alloc(), EMPTY.as_bytes())?.as_slice(), EMPTY.as_bytes());
+    assert_eq!(rt;
+        again(rt.alloc(), EMPTY.as_bytes())?.as_slice(),
+        EMPTY.as_bytes()
+    );
     for lines in [
         PENNIES, BOXES, KNAPSACKS, COVER, FOLLOWED, RAY, CASES, EMPTY_BOX,
     ] {

@@ -268,4 +268,3 @@ fn put_cost(alloc: Global, out: &mut Vec<u8>, i: usize, cost: Frac) -> Result<()
     out.push(b'\n')?;
     Ok(())
 }
-

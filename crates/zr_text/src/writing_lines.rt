@@ -124,12 +124,7 @@ fn put_named_point(alloc: Global, out: &mut Vec<u8>, point: &Point) -> Result<()
     Ok(())
 }
 
-fn put_ray(
-    alloc: Global,
-    out: &mut Vec<u8>,
-    base: &Point,
-    dir: &[i128],
-) -> Result<(), AllocError>
+fn put_ray(alloc: Global, out: &mut Vec<u8>, base: &Point, dir: &[i128]) -> Result<(), AllocError>
     ensures { OnOk result (out.new.items ≡ out.old.items ++ named_line (NamedRay base.now dir.now)) }
 {
     out.extend_from_slice(b"ray".as_slice())?;
@@ -170,12 +165,7 @@ fn put_case(alloc: Global, out: &mut Vec<u8>, node: &RNode) -> Result<(), AllocE
     }
 }
 
-fn put_on_off(
-    alloc: Global,
-    out: &mut Vec<u8>,
-    player: u32,
-    leaf: u32,
-) -> Result<(), AllocError>
+fn put_on_off(alloc: Global, out: &mut Vec<u8>, player: u32, leaf: u32) -> Result<(), AllocError>
     ensures { OnOk result (out.new.items ≡ out.old.items ++ case_line (OnOffNode player leaf)) }
 {
     out.extend_from_slice(b"onoff".as_slice())?;

@@ -1,4 +1,4 @@
-use Rattle.std.proofs.Common.{◌≡◌, ◌∷◌, ◌++◌, [], ◌∙◌, ap, arith, length, map, refl, true, false}
+use Rattle.std.proofs.Common.{◌≡◌, ◌∷◌, ◌++◌, [], ap, arith, length, map, true, false}
 use Rattle.std.specs.List.{zip}
 use Rattle.std.proofs.lemmas.List.{length-append}
 use Rattle.std.proofs.lemmas.Result.{err_from_is_err_and}
@@ -17,9 +17,12 @@ use Rattle.zr_text.proofs.cover.take_covers.Goals as goal
 pub returns-in_err-cover : goal.returns-in_err-cover
 returns-in_err-cover c =
     let p = err_from_is_err_and c.from_residual.result c.from_residual.ensures.1 in
-    rw (p.1, p.2) (many_stop (λ i. cover_read true) (λ i. cover_read false) (zip (map nodes_of c.loop.covers.items) (map named_list c.loop.named.items)) c.args.players c.loop.counter (lines_of c.loop.rest.now) c.in_err-cover.field-0.0
-    (many_read (λ i. cover_read true) c.args.players 0 (lines_of c.args.bytes.now)) (many_read (λ i. cover_read false) c.args.players 0 (lines_of c.args.bytes.now))
-    (λ i. form_shrinks IsLine (FitsCover false) (cover_lines i) (cover_read false) (cover_form false i)) c.loop-test.true c.in_err-cover.ensures c.loop.invariant.so_far, tt)
+    rw (p.1, p.2) (
+      many_stop (λ i. cover_read true) (λ i. cover_read false) (zip (map nodes_of c.loop.covers.items) (map named_list c.loop.named.items)) c.args.players c.loop.counter (lines_of c.loop.rest.now) c.in_err-cover.field-0.0
+          (many_read (λ i. cover_read true) c.args.players 0 (lines_of c.args.bytes.now)) (many_read (λ i. cover_read false) c.args.players 0 (lines_of c.args.bytes.now))
+          (λ i. form_shrinks IsLine (FitsCover false) (cover_lines i) (cover_read false) (cover_form false i)) c.loop-test.true c.in_err-cover.ensures c.loop.invariant.so_far,
+      tt,
+    )
 
 pub take_cover-requires : goal.take_cover-requires
 take_cover-requires c = let w = c.loop.invariant.within in omega (arith, w, c.requires)
@@ -42,6 +45,6 @@ loop-preserved c =
 pub returns : goal.returns
 returns c = (
   many_end (λ i. cover_read true) (λ i. cover_read false) (zip (map nodes_of c.loop.covers.items) (map named_list c.loop.named.items)) c.args.players c.loop.counter (lines_of c.loop.rest.now)
-  (many_read (λ i. cover_read true) c.args.players 0 (lines_of c.args.bytes.now)) (many_read (λ i. cover_read false) c.args.players 0 (lines_of c.args.bytes.now)) c.loop-test.false c.loop.invariant.so_far,
+      (many_read (λ i. cover_read true) c.args.players 0 (lines_of c.args.bytes.now)) (many_read (λ i. cover_read false) c.args.players 0 (lines_of c.args.bytes.now)) c.loop-test.false c.loop.invariant.so_far,
   c.loop.invariant.same,
 )

@@ -1,4 +1,4 @@
-use Rattle.std.proofs.Common.{◌≡◌, ◌∙◌, ap, sym, true, Option, Some, None, Bor}
+use Rattle.std.proofs.Common.{◌∙◌, ap, sym, true, Option, Some, Bor}
 use Rattle.std.specs.Prelude.{option_copied}
 use Rattle.zr_form.specs.Code.{left_of}
 use Rattle.zr_form.specs.Reading.{Bytes}

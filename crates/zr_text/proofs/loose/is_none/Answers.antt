@@ -1,4 +1,4 @@
-use Rattle.std.proofs.Common.{◌≡◌, ◌∙◌, ap, sym, false, Option, Some, None, Bor}
+use Rattle.std.proofs.Common.{◌∙◌, ap, sym, false, Option, Some, Bor}
 use Rattle.std.specs.Prelude.{is_some, option_copied}
 use Rattle.zr_form.specs.Code.{left_of}
 use Rattle.zr_form.specs.Reading.{Bytes}
