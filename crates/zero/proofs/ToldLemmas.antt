@@ -175,7 +175,7 @@ module _ (words : Words) (contents : Contents) (bytes : Bytes)
 text_cert : (c : CertOf) (bytes : Bytes) → IsText c bytes → length bytes ≤ cert_limit → IsCert c
 text_cert c bytes t within =
     let cut = ap (λ (b : Bytes). length (lines_of b)) t.1 in
-    let lines : length (lines_of bytes) ≡ line_count c = cut ∙ ap length (text_lines true c t.0) ∙ as_many_lines c in
+    let lines : length (lines_of bytes) ≡ line_count c = cut ∙ ap length (text_lines true c t.0) ∙ as_many_lines c t.0 in
     let fits = lines_fit bytes in
     cert_told c t.0 (omega (arith, lines, fits, within))
 

@@ -12,6 +12,7 @@ use Rattle.zr_source.specs.SourceEquilibria.{HasNoSourceEquilibrium, IsSourceEqu
 use Rattle.zr_follow.specs.Expansion.{expansion}
 use Rattle.zr_follow.specs.BaseParts.{base_profile}
 use Rattle.zr_value.specs.declared.fault.GameFault.{GameFault}
+use Rattle.zr_read.specs.Texts.{StandsFor}
 use Rattle.zr_write.specs.Written.{IsWritten}
 use Rattle.zr_trial.specs.Reach.{IsWithinReach}
 use Rattle.zr_trial.specs.First.{IsFirstEquilibrium, pure_profile}
@@ -115,11 +116,13 @@ pub record IsChecked (words : Words) (contents : Contents) (text : Bytes) : Type
 
 -- ---- migrate
 
--- the text is the canonical one, in format 2, of the game for which the bytes stand
+-- the text is the canonical one, in format 2, of the game for which the bytes stand, and stands for
+-- it
 pub record IsSameGame (bytes text : Bytes) : Type 0 where
   pub source : SourceOf
   pub game : IsGameText bytes source
   pub canonical : IsWritten true source text
+  pub stands : StandsFor text source
 
 -- the words ask for the text in today's form of the game that was read
 pub record IsMigrated (words : Words) (contents : Contents) (text : Bytes) : Type 0 where

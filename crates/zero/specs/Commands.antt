@@ -9,32 +9,32 @@ use Rattle.zr_words.specs.declared.command.Command.{Command}
 use Rattle.zr_words.specs.declared.command.Command.TheVariants.{Solve, Check, Migrate}
 
 -- the command is to solve the game under this name, for this kind of strategies
-abbrev pub Solves : Kind → Bytes → Command → Type 0
-Solves kind name (Solve game options) = (game.now ≡ name) × (options.kind ≡ kind)
-Solves kind name (Check game cert) = ⊥
-Solves kind name (Migrate game) = ⊥
+abbrev pub IsSolveOf : Kind → Bytes → Command → Type 0
+IsSolveOf kind name (Solve game options) = (game.now ≡ name) × (options.kind ≡ kind)
+IsSolveOf kind name (Check game cert) = ⊥
+IsSolveOf kind name (Migrate game) = ⊥
 
 -- the command is to check the certificate for the game, each under its name
-abbrev pub Checks : Bytes → Bytes → Command → Type 0
-Checks name other (Solve game options) = ⊥
-Checks name other (Check game cert) = (game.now ≡ name) × (cert.now ≡ other)
-Checks name other (Migrate game) = ⊥
+abbrev pub IsCheckOf : Bytes → Bytes → Command → Type 0
+IsCheckOf name other (Solve game options) = ⊥
+IsCheckOf name other (Check game cert) = (game.now ≡ name) × (cert.now ≡ other)
+IsCheckOf name other (Migrate game) = ⊥
 
 -- the command is to write the text in today's form of the game under this name
-abbrev pub Migrates : Bytes → Command → Type 0
-Migrates name (Solve game options) = ⊥
-Migrates name (Check game cert) = ⊥
-Migrates name (Migrate game) = game.now ≡ name
+abbrev pub IsMigrateOf : Bytes → Command → Type 0
+IsMigrateOf name (Solve game options) = ⊥
+IsMigrateOf name (Check game cert) = ⊥
+IsMigrateOf name (Migrate game) = game.now ≡ name
 
 -- the words ask for an equilibrium of the kind
 abbrev pub IsSolve : Words → Kind → Bytes → Type 0
-IsSolve words kind name = (command : Command) × Asks words command × Solves kind name command
+IsSolve words kind name = (command : Command) × Asks words command × IsSolveOf kind name command
 
 abbrev pub IsCheck : Words → Bytes → Bytes → Type 0
-IsCheck words name cert = (command : Command) × Asks words command × Checks name cert command
+IsCheck words name cert = (command : Command) × Asks words command × IsCheckOf name cert command
 
 abbrev pub IsMigrate : Words → Bytes → Type 0
-IsMigrate words name = (command : Command) × Asks words command × Migrates name command
+IsMigrate words name = (command : Command) × Asks words command × IsMigrateOf name command
 
 -- an equilibrium of mixed strategies isn't searched for yet
 abbrev pub IsUnbuiltCommand : Words → Type 0
