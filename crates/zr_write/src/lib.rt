@@ -3,6 +3,7 @@
 
 mod costs;
 mod followers;
+mod laws;
 mod leaders;
 mod parts;
 mod rows;
@@ -16,6 +17,7 @@ ghost use Rattle.zr_write.specs.Canonical.{source_data};
 ghost use Rattle.zr_write.specs.Written.{IsWritten, has_zero_lows, is_zero, needs_lows};
 
 use crate::leaders::leaders_value;
+pub use laws::law_of_reading_back;
 use serde_json::{Value, json};
 use std::alloc::{AllocError, Global};
 pub use zr_base::NoMemory;
