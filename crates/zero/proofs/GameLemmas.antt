@@ -1,5 +1,5 @@
 -- A text stands for one game, or has a fault.
-use Rattle.std.proofs.Common.{◌≡◌, true, ℕ, zero, suc, ◌<◌, ◌≤◌, List, [], ◌∷◌, sym, subst, inl, inr, ◌⊎◌, arith, refl}
+use Rattle.std.proofs.Common.{◌≡◌, ℕ, zero, suc, ◌<◌, ◌≤◌, List, [], ◌∷◌, sym, subst, inl, inr, ◌⊎◌, arith, refl}
 use Rattle.std.proofs.lemmas.Option.{same_Some}
 use Rattle.std.proofs.lemmas.Bool.{cases_lt}
 use Rattle.zr_game.specs.Forms.{IsGame}
@@ -12,10 +12,6 @@ use Rattle.zr_follow.proofs.Relations.{expansion_is}
 use Rattle.zr_value.specs.declared.fault.GameFault.{GameFault}
 use Rattle.zr_read.proofs.Exclusive.{one_source, source_or_fault}
 use Rattle.zr_read.proofs.Sound.{source_is_right}
-use Rattle.zr_read.specs.Texts.{StandsFor}
-use Rattle.zr_write.specs.Canonical.{source_data}
-use Rattle.zr_write.specs.Written.{IsWritten}
-use Rattle.zr_write.proofs.SourceBack.{source_back}
 use Rattle.zero.specs.Games.{HasGameFault, IsExpandable, IsGameText}
 
 pub one_game : (bytes : Bytes) (s t : SourceOf) → IsGameText bytes s → IsGameText bytes t → s ≡ t
@@ -41,15 +37,6 @@ pub game_of_text : (bytes : Bytes) (source : SourceOf) → IsGameText bytes sour
 game_of_text bytes source text =
     expansion_form source (source_of_text bytes source text) (expansion source)
     (expansion_is source) text.fits
-
--- a canonical text stands for its game
-pub written_stands : (source : SourceOf) → IsSource source → (bytes : Bytes)
-    → IsWritten true source bytes → StandsFor bytes source
-written_stands source is bytes written = record {
-  value = source_data true source;
-  text = (written.utf8, written.reads);
-  content = source_back true source is (λ e. absurd cc);
-}
 
 -- ---- leaders with too many variables or pairs
 

@@ -1,7 +1,7 @@
 use Rattle.std.proofs.Common.{rules, true, inr}
 use Rattle.zr_read.specs.Texts.{source_of}
 use Rattle.zr_write.specs.Written.{IsWritten}
-use Rattle.zero.proofs.GameLemmas.{written_stands}
+use Rattle.zr_write.proofs.SourceBack.{written_stands}
 use Rattle.zero.proofs.migrate.migrated.Goals as goal
 
 pub returns-in_err-reading-clause-err : goal.returns-in_err-reading-clause-err
@@ -16,5 +16,6 @@ returns-in-Ok-clause-ok c =
       source = source;
       game = c.in_ok-reading.ensures.ok.text;
       canonical = written;
-      stands = written_stands source c.in_ok-reading.reading.source.sound c.in-Ok.text.items written;
+      stands = written_stands true source c.in-Ok.text.items c.in_ok-reading.reading.source.sound
+          (λ e. absurd cc) written;
     }
