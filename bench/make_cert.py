@@ -23,6 +23,15 @@ def solve(cost, rows, right):
         table[i][n + i] = F(1)
     basis = list(range(n, n + m))
 
+    def pivot(row, col):
+        p = table[row][col]
+        table[row] = [v / p for v in table[row]]
+        for i in range(m):
+            if i != row and table[i][col] != 0:
+                k = table[i][col]
+                table[i] = [v - k * w for v, w in zip(table[i], table[row])]
+        basis[row] = col
+
     def run(c, allowed):
         while True:
             price = [sum(c[basis[i]] * table[i][j] for i in range(m)) for j in range(n + m)]
@@ -33,13 +42,7 @@ def solve(cost, rows, right):
             if not ratios:
                 return False
             row = min(ratios)[2]
-            p = table[row][col]
-            table[row] = [v / p for v in table[row]]
-            for i in range(m):
-                if i != row and table[i][col] != 0:
-                    k = table[i][col]
-                    table[i] = [v - k * w for v, w in zip(table[i], table[row])]
-            basis[row] = col
+            pivot(row, col)
 
     run([F(0)] * n + [F(1)] * m, n + m)
     if sum(table[i][-1] for i in range(m) if basis[i] >= n) > 0:
@@ -48,13 +51,7 @@ def solve(cost, rows, right):
         if basis[i] >= n:
             col = next((j for j in range(n) if table[i][j] != 0), None)
             if col is not None:
-                p = table[i][col]
-                table[i] = [v / p for v in table[i]]
-                for k in range(m):
-                    if k != i and table[k][col] != 0:
-                        f = table[k][col]
-                        table[k] = [v - f * w for v, w in zip(table[k], table[i])]
-                basis[i] = col
+                pivot(i, col)
     if not run([F(c) for c in cost] + [F(0)] * m, n):
         return None
     y = [F(0)] * n
