@@ -230,4 +230,5 @@ def main():
     print("\n".join(lines + ["end"]))
 
 
-main()
+if __name__ == "__main__":
+    main()
