@@ -1,5 +1,5 @@
 -- The follower of the example takes the greatest value.
-use Rattle.std.proofs.Common.{◌≡◌, ℕ, zero, suc, arith, refl, subst, ℤ, pos, ◌≤ℤ◌, false, Some, None, [], ◌∷◌, All}
+use Rattle.std.proofs.Common.{◌≡◌, ℕ, zero, suc, arith, refl, subst, ℤ, pos, ◌≤ℤ◌, false, Some, None, [], ◌∷◌, codes, All}
 use Rattle.std.proofs.lemmas.Int.{ints}
 use Rattle.zr_base.specs.Fractions.{IsAtMost, IsSame, whole}
 use Rattle.zr_base.specs.Points.{PointOf, num_of, value_of}
@@ -21,11 +21,11 @@ least_at_two y is =
     let row = is.rows 0 (record { coef = []; le = pos 0 }) (omega arith) in
     omega (arith, ints, x, row)
 
-bounded : VarOf
-bounded = record { name = []; whole = false; low = Some (pos 0); up = Some (pos 2) }
+unfoldable pub bounded : VarOf
+bounded = record { name = codes "x"; whole = false; low = Some (pos 0); up = Some (pos 2) }
 
-unbounded : VarOf
-unbounded = record { name = []; whole = false; low = Some (pos 0); up = None }
+unfoldable pub unbounded : VarOf
+unbounded = record { name = codes "f"; whole = false; low = Some (pos 0); up = None }
 
 in_bounded : IsWithin bounded (pos 2) (pos 1)
 unfolding bounded

@@ -1,5 +1,5 @@
 -- A leader that chooses x up to 2, and its follower, which takes the greatest f of at most x.
-use Rattle.std.specs.Prelude.{ℤ, pos, negsuc, false, Some, None, [], ◌∷◌}
+use Rattle.std.specs.Prelude.{ℤ, pos, negsuc, false, Some, None, [], ◌∷◌, codes}
 use Rattle.zr_base.specs.Points.{PointOf}
 use Rattle.zr_source.specs.Sources.{FollowerOf, LeaderOf}
 
@@ -17,9 +17,9 @@ greatest = record {
 abbrev pub generous : LeaderOf
 generous = record {
   base = record {
-    name = [];
-    vars = record { name = []; whole = false; low = Some (pos 0); up = Some (pos 2) }
-        ∷ record { name = []; whole = false; low = Some (pos 0); up = None }
+    name = codes "leader";
+    vars = record { name = codes "x"; whole = false; low = Some (pos 0); up = Some (pos 2) }
+        ∷ record { name = codes "f"; whole = false; low = Some (pos 0); up = None }
         ∷ [];
     rows = [];
     pairs = [];

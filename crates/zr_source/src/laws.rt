@@ -1,4 +1,4 @@
-ghost use Rattle.std.specs.Prelude.{◌↔◌, ◌≡◌, [], pos};
+ghost use Rattle.std.specs.Prelude.{◌↔◌, ◌≡◌, [], ◌∷◌, pos};
 ghost use Rattle.zr_base.specs.Points.{PointOf};
 ghost use Rattle.zr_game.specs.Equilibria.{HasNoEquilibrium, IsEquilibrium};
 ghost use Rattle.zr_game.specs.Feasible.{IsFeasible};
@@ -6,6 +6,7 @@ ghost use Rattle.zr_game.specs.Profiles.{Profile};
 ghost use Rattle.zr_game.specs.declared.kind.Kind.{Kind};
 ghost use Rattle.zr_source.specs.Examples.{chosen, generous};
 ghost use Rattle.zr_source.specs.Optimal.{IsLeaderFeasible};
+ghost use Rattle.zr_source.specs.SourceForms.{IsSource};
 ghost use Rattle.zr_source.specs.SourceEquilibria.{HasNoFollowers, HasNoSourceEquilibrium, IsSourceEquilibrium};
 ghost use Rattle.zr_source.specs.Sources.{LeaderOf, SourceOf, bases};
 
@@ -20,8 +21,10 @@ pub fn law_of_leaders_alone()
         → (HasNoSourceEquilibrium source kind ↔ HasNoEquilibrium (bases source) kind) }
 {}
 
-/// Where a leader's follower takes the greatest value, taking a smaller one isn't feasible.
+/// A leader whose follower takes the greatest value is a source, and taking a smaller one isn't
+/// feasible.
 pub fn law_of_greatest()
+    ensures source { IsSource (generous ∷ []) }
     ensures greatest { IsLeaderFeasible generous (chosen (pos 2) (pos 2)) }
     ensures smaller { IsLeaderFeasible generous (chosen (pos 2) (pos 1)) → ⊥ }
 {}
