@@ -20,11 +20,12 @@ use Rattle.zr_game.specs.declared.kind.Kind.{Kind}
 use Rattle.zr_game.specs.declared.kind.Kind.TheVariants.{Pure, Mixed}
 use Rattle.zr_follow.proofs.BaseProfiles.{base_is, deviation_base, expected_base, length-base_profile, strategy_base}
 use Rattle.zr_follow.proofs.Expanded.{expanded_feasible, get_within, leader_feasible}
-use Rattle.zr_follow.proofs.SameProfiles.{SameParts, SameProfile, expected_same, same_deviation, same_profile_refl}
+use Rattle.zr_follow.proofs.SameProfiles.{expected_same, same_deviation, same_profile_refl, same_profile_sym}
 use Rattle.zr_follow.proofs.Relations.{IsExpansion}
 use Rattle.zr_source.specs.Optimal.{IsLeaderFeasible}
 use Rattle.zr_source.specs.SourceEquilibria.{HasNoSourceEquilibrium, IsLeaderStrategy, IsSourceEquilibrium, IsSourceProfile}
 use Rattle.zr_follow.specs.BaseParts.{base_of_part, base_part, base_profile, base_strategy}
+use Rattle.zr_follow.specs.SameProfiles.{IsSameProfile, IsSameStrategy}
 use Rattle.zr_source.specs.SourceForms.{IsSource}
 use Rattle.zr_source.specs.Sources.{IsLeader, LeaderOf, SourceOf, bases}
 
@@ -55,7 +56,7 @@ base_valid source profile valid = record {
         })
 
 -- a profile has the same values as itself
-own_profile : (source : SourceOf) (P : Profile) → IsSourceProfile source P → SameProfile P P
+own_profile : (source : SourceOf) (P : Profile) → IsSourceProfile source P → IsSameProfile P P
 own_profile source P valid =
     same_profile_refl P (each_strategy (Each HasDen) P dens)
   where
@@ -75,13 +76,13 @@ lengths_base (l ∷ source) [] len = absurd (omega (arith, len))
 lengths_base (l ∷ source) (s ∷ ss) len =
     ap₂ (λ (n : ℕ) (ns : List ℕ). n ∷ ns) (length-map s (base_of_part l)) (lengths_base source ss (omega (arith, len)))
 
-length_same : (s t : Strategy) → SameParts s t → length s ≡ length t
+length_same : (s t : Strategy) → IsSameStrategy s t → length s ≡ length t
 length_same [] [] same = refl
 length_same [] (q ∷ qs) same = absurd same
 length_same (p ∷ ps) [] same = absurd same
-length_same (p ∷ ps) (q ∷ qs) same = ap suc (length_same ps qs same.2)
+length_same (p ∷ ps) (q ∷ qs) same = ap suc (length_same ps qs same.1)
 
-lengths_same : (P Q : Profile) → SameProfile P Q → map (λ (s : Strategy). length s) P ≡ map (λ (s : Strategy). length s) Q
+lengths_same : (P Q : Profile) → IsSameProfile P Q → map (λ (s : Strategy). length s) P ≡ map (λ (s : Strategy). length s) Q
 lengths_same [] [] same = refl
 lengths_same [] (t ∷ ts) same = absurd same
 lengths_same (s ∷ ss) [] same = absurd same
@@ -100,7 +101,7 @@ kinds_base source Q len kind =
     (kind_same kind Q (base_profile source Q) (sym lens), kind_same kind (base_profile source Q) Q lens)
 
 -- strategies whose base parts are those of a profile, put together
-gathered : (source : SourceOf) (P : Profile) (good : ℕ → Strategy → Type 0) → length P ≡ length source → ((k : ℕ) (leader : LeaderOf) → IsLeader source k leader → (made : Strategy) × SameParts (strategy_of P k) (base_strategy leader made) × good k made) → (Q : Profile) × SameProfile P (base_profile source Q) × (length Q ≡ length source) × ((k : ℕ) (leader : LeaderOf) → IsLeader source k leader → good k (strategy_of Q k))
+gathered : (source : SourceOf) (P : Profile) (good : ℕ → Strategy → Type 0) → length P ≡ length source → ((k : ℕ) (leader : LeaderOf) → IsLeader source k leader → (made : Strategy) × IsSameStrategy (strategy_of P k) (base_strategy leader made) × good k made) → (Q : Profile) × IsSameProfile P (base_profile source Q) × (length Q ≡ length source) × ((k : ℕ) (leader : LeaderOf) → IsLeader source k leader → good k (strategy_of Q k))
 gathered [] [] good len h = ([], tt, refl, λ k leader is. absurd cc)
 gathered [] (s ∷ ss) good len h = absurd (omega (arith, len))
 gathered (l ∷ source) [] good len h = absurd (omega (arith, len))
@@ -118,7 +119,7 @@ module _ (source : SourceOf) (form : IsSource source) where
   form_at i leader is = form.bases.players i leader.base (base_is source i leader is)
 
   -- deviations to points of the same values, in profiles of the same values, are ordered alike
-  order_alike : (P Q : Profile) → IsSourceProfile source P → IsSourceProfile source Q → SameProfile P Q → (i : ℕ) (leader : LeaderOf) → IsLeader source i leader → (x y : PointOf) → IsLeaderFeasible leader x → IsLeaderFeasible leader y → IsSamePoint x y → IsAtMost (expected_cost leader.base i P) (expected_cost leader.base i (deviation P i x)) → IsAtMost (expected_cost leader.base i Q) (expected_cost leader.base i (deviation Q i y))
+  order_alike : (P Q : Profile) → IsSourceProfile source P → IsSourceProfile source Q → IsSameProfile P Q → (i : ℕ) (leader : LeaderOf) → IsLeader source i leader → (x y : PointOf) → IsLeaderFeasible leader x → IsLeaderFeasible leader y → IsSamePoint x y → IsAtMost (expected_cost leader.base i P) (expected_cost leader.base i (deviation P i x)) → IsAtMost (expected_cost leader.base i Q) (expected_cost leader.base i (deviation Q i y))
   order_alike P Q valid_P valid_Q same i leader is x y fx fy point h =
       let game = bases source in
       let here = base_is source i leader is in
@@ -240,19 +241,19 @@ module _ (source : SourceOf) (form : IsSource source) where
     equilibria Q valid = (source_equilibrium Q, game_equilibrium Q valid)
 
     -- a strategy's points with multipliers
-    lifted : (i : ℕ) (leader : LeaderOf) (player : PlayerOf) → IsLeader source i leader → IsPlayer game i player → (parts : Strategy) → Each (λ part. (pos 1) ≤ℤ part.weight) parts → Each (λ part. IsLeaderFeasible leader part.point) parts → (made : Strategy) × SameParts parts (base_strategy leader made) × Each (λ part. (pos 1) ≤ℤ part.weight) made × Each (λ part. IsFeasible player part.point) made
+    lifted : (i : ℕ) (leader : LeaderOf) (player : PlayerOf) → IsLeader source i leader → IsPlayer game i player → (parts : Strategy) → Each (λ part. (pos 1) ≤ℤ part.weight) parts → Each (λ part. IsLeaderFeasible leader part.point) parts → (made : Strategy) × IsSameStrategy parts (base_strategy leader made) × Each (λ part. (pos 1) ≤ℤ part.weight) made × Each (λ part. IsFeasible player part.point) made
     lifted i leader player is at_i [] weights points = ([], tt, tt, tt)
     lifted i leader player is at_i (part ∷ parts) weights points =
         let found = expanded_feasible (bases source) i leader player (form_at i leader is) (form.leaders i leader is) (expansion.players i leader player is at_i) part.point points.0 in
         let rest = lifted i leader player is at_i parts weights.1 points.1 in
         let same = found.1 in
         let made : Part = record { weight = part.weight; point = found.0 } in
-        (made ∷ rest.0, (refl, same_point_sym (base_part leader found.0) part.point same, rest.1), (weights.0, rest.2), (found.2, rest.3))
+        (made ∷ rest.0, (record { weight = refl; point = same_point_sym (base_part leader found.0) part.point same }, rest.1), (weights.0, rest.2), (found.2, rest.3))
 
     abbrev IsGood : ℕ → Strategy → Type 0
     IsGood k made = (player : PlayerOf) → IsPlayer game k player → IsStrategy player made
 
-    lifted_strategy : (P : Profile) → IsSourceProfile source P → (k : ℕ) (leader : LeaderOf) → IsLeader source k leader → (made : Strategy) × SameParts (strategy_of P k) (base_strategy leader made) × IsGood k made
+    lifted_strategy : (P : Profile) → IsSourceProfile source P → (k : ℕ) (leader : LeaderOf) → IsLeader source k leader → (made : Strategy) × IsSameStrategy (strategy_of P k) (base_strategy leader made) × IsGood k made
     lifted_strategy P valid k leader is =
         let p = player_at k leader is in
         let s = valid.strategies k leader is in
@@ -270,23 +271,43 @@ module _ (source : SourceOf) (form : IsSource source) where
         one a b e f = cc
 
     -- a profile of the source with multipliers
-    lifted_profile : (P : Profile) → IsSourceProfile source P → (Q : Profile) × SameProfile P (base_profile source Q) × IsProfile game Q
+    lifted_profile : (P : Profile) → IsSourceProfile source P → (Q : Profile) × IsSameProfile P (base_profile source Q) × IsProfile game Q
     lifted_profile P valid =
         let g = gathered source P IsGood valid.len (lifted_strategy P valid) in
         (g.0, g.1, record { len = g.2 ∙ sym expansion.len; strategies = λ i player at_i. let l = leader_at i player at_i in g.3 i l.0 l.1 player at_i })
 
-    moved_equilibrium : (P Q : Profile) → SameProfile P Q → IsSourceProfile source Q → IsSourceEquilibrium source P → IsSourceEquilibrium source Q
+    moved_equilibrium : (P Q : Profile) → IsSameProfile P Q → IsSourceProfile source Q → IsSourceEquilibrium source P → IsSourceEquilibrium source Q
     moved_equilibrium P Q same valid e = record {
       valid = valid;
       stable = λ i leader is x h. order_alike P Q e.valid valid same i leader is x x h h (same_point_refl x h.base.point) (e.stable i leader is x h);
     }
 
+    -- each equilibrium of the source is the base part of one of the game, of the same kind
+    pub lifts : (kind : Kind) (P : Profile) → IsOfKind kind P → IsSourceEquilibrium source P
+        → (Q : Profile) × IsOfKind kind Q × IsEquilibrium game Q
+        × IsSameProfile (base_profile source Q) P
+    lifts kind P of_kind e =
+        let l = lifted_profile P e.valid in
+        let base = base_profile source l.0 in
+        let lens : length l.0 ≡ length source = l.2.len ∙ expansion.len in
+        let at_base = kind_same kind P base (lengths_same P base l.1) of_kind in
+        let at_base_equilibrium = moved_equilibrium P base l.1 (source_valid l.0 l.2) e in (
+          l.0,
+          kind_same kind base l.0 (lengths_base source l.0 lens) at_base,
+          game_equilibrium l.0 l.2 at_base_equilibrium,
+          same_profile_sym P base l.1,
+        )
+
     -- the game has no equilibrium of a kind exactly where the source has none
     pub none_alike : (kind : Kind) → HasNoEquilibrium game kind ↔ HasNoSourceEquilibrium source kind
-    none_alike kind = (λ none P of_kind e. up none P of_kind e (lifted_profile P e.valid), λ none Q of_kind e. none (base_profile source Q) (kind_same kind Q (base_profile source Q) (sym (lengths_base source Q (e.valid.len ∙ expansion.len))) of_kind) (source_equilibrium Q e))
+    none_alike kind = (up, down)
       where
-        up : HasNoEquilibrium game kind → (P : Profile) → IsOfKind kind P → IsSourceEquilibrium source P → (Q : Profile) × SameProfile P (base_profile source Q) × IsProfile game Q → ⊥
-        up none P of_kind e l =
-            let lens : length l.0 ≡ length source = l.2.len ∙ expansion.len in
-            let at_base = kind_same kind P (base_profile source l.0) (lengths_same P (base_profile source l.0) l.1) of_kind in
-            none l.0 (kind_same kind (base_profile source l.0) l.0 (lengths_base source l.0 lens) at_base) (game_equilibrium l.0 l.2 (moved_equilibrium P (base_profile source l.0) l.1 (source_valid l.0 l.2) e))
+        up : HasNoEquilibrium game kind → HasNoSourceEquilibrium source kind
+        up none P of_kind e = let l = lifts kind P of_kind e in none l.0 l.1 l.2
+
+        down : HasNoSourceEquilibrium source kind → HasNoEquilibrium game kind
+        down none Q of_kind e =
+            let lens : length Q ≡ length source = e.valid.len ∙ expansion.len in
+            let base = base_profile source Q in
+            none base (kind_same kind Q base (sym (lengths_base source Q lens)) of_kind)
+            (source_equilibrium Q e)

@@ -1,3 +1,4 @@
 pub mod Programs
 pub mod Expansion
 pub mod BaseParts
+pub mod SameProfiles

@@ -1,17 +1,19 @@
 //! The expansion of sources.
-ghost use Rattle.std.specs.Prelude.{pos, ◌<ℤ◌, ◌≡◌, ◌↔◌, ◌<◌, ◌≤◌, ℕ, Some, None, Err, IfOk, IfSome, length, map, ◌++◌};
+ghost use Rattle.std.specs.Prelude.{pos, ◌<ℤ◌, ◌≡◌, ◌↔◌, ◌<◌, ◌≤◌, ℕ, Some, None, Err, IfOk, IfSome, List, length, map, ◌++◌};
 ghost use Rattle.std.specs.List.{All};
 ghost use Rattle.zr_game.specs.Games.{game_of};
 ghost use Rattle.zr_game.specs.Players.{PlayerOf, pair_of, player_of, players_of};
 ghost use Rattle.zr_base.specs.Points.{IsSamePoint, PointOf};
 ghost use Rattle.zr_game.specs.Forms.{IsPlayer};
 ghost use Rattle.zr_game.specs.Feasible.{IsFeasible};
-ghost use Rattle.zr_game.specs.Profiles.{IsProfile, Profile};
+ghost use Rattle.zr_game.specs.Costs.{cost_of};
+ghost use Rattle.zr_game.specs.Profiles.{IsOfKind, IsProfile, Profile, expected, expected_cost};
 ghost use Rattle.zr_game.specs.Equilibria.{HasNoEquilibrium, IsEquilibrium};
 ghost use Rattle.zr_game.specs.declared.kind.Kind.{Kind};
 ghost use Rattle.zr_source.specs.Optimal.{IsLeaderFeasible};
-ghost use Rattle.zr_source.specs.SourceEquilibria.{HasNoSourceEquilibrium, IsSourceEquilibrium};
-ghost use Rattle.zr_follow.specs.BaseParts.{base_part, base_profile};
+ghost use Rattle.zr_source.specs.SourceEquilibria.{HasNoSourceEquilibrium, IsSourceEquilibrium, leader_cost};
+ghost use Rattle.zr_follow.specs.BaseParts.{base_part, base_points, base_profile};
+ghost use Rattle.zr_follow.specs.SameProfiles.{IsSameProfile};
 ghost use Rattle.zr_source.specs.Sources.{IsLeader, LeaderOf, leader_of, leaders_of};
 ghost use Rattle.zr_source.specs.SourceForms.{IsLeaderForm, IsSource};
 ghost use Rattle.zr_follow.specs.Expansion.{IsFirstPast, IsWithinCounts, all_pairs, expanded, expansion};
@@ -42,9 +44,11 @@ pub enum FollowError {
 /// of a leader stays as it is. These are the conditions of A. W. Tucker and H. W. Kuhn (1951).
 ///
 /// So a point of a leader is feasible, its followers' answers being optimal, exactly where some
-/// multipliers make it a feasible point of the player; a profile of the game is an equilibrium
-/// exactly where it is one of the source without its multipliers; and the game has none of a kind
-/// exactly where the source has none.
+/// multipliers make it a feasible point of the player. Multipliers cost nothing: a player's cost,
+/// and so its expected cost, is the leader's without them. A profile of the game is an equilibrium
+/// exactly where it is one of the source without its multipliers; each equilibrium of the source is
+/// some equilibrium of the game, of the same kind, with the multipliers left out; and the game has
+/// none of a kind exactly where the source has none.
 pub fn expand(alloc: Global, source: &Source) -> Result<Game, FollowError>
     ensures ok { IfOk result (λ game.
         game_of game ≡ expansion (leaders_of source.now.leaders.items)) }
@@ -53,10 +57,26 @@ pub fn expand(alloc: Global, source: &Source) -> Result<Game, FollowError>
         → IsPlayer (game_of game) i player → (x : PointOf) → pos 0 <ℤ x.den
         → (IsLeaderFeasible leader x
         ↔ ((z : PointOf) × IsSamePoint (base_part leader z) x × IsFeasible player z))) }
+    ensures costs { IfOk result (λ game. (i : ℕ) (leader : LeaderOf) (player : PlayerOf)
+        → IsLeader (leaders_of source.now.leaders.items) i leader
+        → IsPlayer (game_of game) i player → (points : List PointOf)
+        → length points ≡ length source.now.leaders.items → cost_of player i points
+        ≡ leader_cost leader i (base_points (leaders_of source.now.leaders.items) points)) }
+    ensures expected_costs { IfOk result (λ game. (i : ℕ) (leader : LeaderOf) (player : PlayerOf)
+        → IsLeader (leaders_of source.now.leaders.items) i leader
+        → IsPlayer (game_of game) i player → (profile : Profile)
+        → length profile ≡ length source.now.leaders.items → expected_cost player i profile
+        ≡ expected (leader_cost leader i)
+        (base_profile (leaders_of source.now.leaders.items) profile)) }
     ensures equilibria { IfOk result (λ game. (profile : Profile)
         → IsProfile (game_of game) profile → (IsEquilibrium (game_of game) profile
         ↔ IsSourceEquilibrium (leaders_of source.now.leaders.items)
         (base_profile (leaders_of source.now.leaders.items) profile))) }
+    ensures lifts { IfOk result (λ game. (kind : Kind) (profile : Profile)
+        → IsOfKind kind profile
+        → IsSourceEquilibrium (leaders_of source.now.leaders.items) profile
+        → ((lift : Profile) × IsOfKind kind lift × IsEquilibrium (game_of game) lift
+        × IsSameProfile (base_profile (leaders_of source.now.leaders.items) lift) profile)) }
     ensures none { IfOk result (λ game. (kind : Kind) → (HasNoEquilibrium (game_of game) kind
         ↔ HasNoSourceEquilibrium (leaders_of source.now.leaders.items) kind)) }
     ensures count { (i : ℕ) → (result ≡ Err (FollowError.Count i))

@@ -14,6 +14,7 @@ ghost use Rattle.zr_source.specs.Optimal.{IsLeaderFeasible};
 ghost use Rattle.zr_follow.specs.Expansion.{expanded, expansion};
 ghost use Rattle.zr_source.specs.SourceEquilibria.{HasNoSourceEquilibrium, IsSourceEquilibrium};
 ghost use Rattle.zr_follow.specs.BaseParts.{base_part, base_points, base_profile};
+ghost use Rattle.zr_follow.specs.SameProfiles.{IsSameProfile};
 
 /// A point of a linear program is least exactly where the rows have multipliers there.
 ///
@@ -64,8 +65,9 @@ pub fn law_of_expanded_costs()
 {}
 
 /// A profile of the expansion is an equilibrium exactly where it is one of the source without its
-/// multipliers, it is then of the same kind, and there is one of a kind exactly where the source
-/// has one.
+/// multipliers, and it is then of the same kind. Each equilibrium of the source is some equilibrium
+/// of the expansion, of the same kind, with the multipliers left out; so the expansion has none of a
+/// kind exactly where the source has none.
 pub fn law_of_expanded_equilibria()
     ensures profiles { (source : SourceOf) → IsSource source → (profile : Profile)
         → IsProfile (expansion source) profile → (IsEquilibrium (expansion source) profile
@@ -73,6 +75,10 @@ pub fn law_of_expanded_equilibria()
     ensures kinds { (source : SourceOf) (profile : Profile) → length profile ≡ length source
         → (kind : Kind)
         → (IsOfKind kind profile ↔ IsOfKind kind (base_profile source profile)) }
+    ensures lifts { (source : SourceOf) → IsSource source → (kind : Kind) (profile : Profile)
+        → IsOfKind kind profile → IsSourceEquilibrium source profile
+        → ((lift : Profile) × IsOfKind kind lift × IsEquilibrium (expansion source) lift
+        × IsSameProfile (base_profile source lift) profile) }
     ensures none { (source : SourceOf) → IsSource source → (kind : Kind)
         → (HasNoEquilibrium (expansion source) kind ↔ HasNoSourceEquilibrium source kind) }
 {}

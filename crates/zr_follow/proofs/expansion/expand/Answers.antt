@@ -1,4 +1,5 @@
 use Rattle.std.proofs.Common.{◌≡◌, ℕ, refl, sym, ap, subst, ◌∙◌, List, Err}
+use Rattle.std.proofs.lemmas.List.{length-map}
 use Rattle.zr_game.specs.declared.player.Player.{Player}
 use Rattle.zr_game.specs.Players.{players_of}
 use Rattle.zr_follow.proofs.ExpandedForms.{expansion_form}
@@ -7,9 +8,9 @@ use Rattle.zr_follow.specs.declared.expansion.FollowError.TheVariants.{Count}
 use Rattle.zr_source.specs.declared.source.Leader.{Leader}
 use Rattle.zr_follow.specs.Expansion.{IsFirstPast, expansion}
 use Rattle.zr_follow.proofs.Relations.{IsExpansion, expansion_is}
-use Rattle.zr_source.specs.Sources.{IsLeader, leaders_of}
-use Rattle.zr_follow.proofs.BaseProfiles.{base_is}
-use Rattle.zr_follow.proofs.Equilibria.{equilibria, none_alike}
+use Rattle.zr_source.specs.Sources.{IsLeader, leader_of, leaders_of}
+use Rattle.zr_follow.proofs.BaseProfiles.{base_is, cost_expanded, expected_base}
+use Rattle.zr_follow.proofs.Equilibria.{equilibria, lifts, none_alike}
 use Rattle.zr_follow.proofs.SameAnswers.{feasible_exactly}
 use Rattle.zr_source.specs.Sources.{bases}
 use Rattle.zr_game.specs.Games.{game_of}
@@ -69,10 +70,29 @@ returns-in-Ok-clause-feasible c i leader player is at_i =
     (form.bases.players i leader.base (base_is source i leader is)) (form.leaders i leader is)
     (expansion.players i leader player is at_i)
 
+pub returns-in-Ok-clause-costs : goal.returns-in-Ok-clause-costs
+returns-in-Ok-clause-costs c i leader player is at_i points len =
+    let leaders = c.args.source.now.leaders.items in
+    let expansion = expands ((goal.at.returns-in-Ok-clause-costs c).After-unwrap) in
+    cost_expanded (leaders_of leaders) c.args.source.now.sound i leader is points
+    (len ∙ sym (length-map leaders leader_of)) player (expansion.players i leader player is at_i)
+
+pub returns-in-Ok-clause-expected_costs : goal.returns-in-Ok-clause-expected_costs
+returns-in-Ok-clause-expected_costs c i leader player is at_i profile len =
+    let leaders = c.args.source.now.leaders.items in
+    let expansion = expands ((goal.at.returns-in-Ok-clause-expected_costs c).After-unwrap) in
+    expected_base (leaders_of leaders) c.args.source.now.sound i leader is player
+    (expansion.players i leader player is at_i) profile (len ∙ sym (length-map leaders leader_of))
+
 pub returns-in-Ok-clause-equilibria : goal.returns-in-Ok-clause-equilibria
 returns-in-Ok-clause-equilibria c =
     equilibria (leaders_of c.args.source.now.leaders.items) c.args.source.now.sound
     (game_of c.unwrap.result) (expands ((goal.at.returns-in-Ok-clause-equilibria c).After-unwrap))
+
+pub returns-in-Ok-clause-lifts : goal.returns-in-Ok-clause-lifts
+returns-in-Ok-clause-lifts c =
+    lifts (leaders_of c.args.source.now.leaders.items) c.args.source.now.sound
+    (game_of c.unwrap.result) (expands ((goal.at.returns-in-Ok-clause-lifts c).After-unwrap))
 
 pub returns-in-Ok-clause-none : goal.returns-in-Ok-clause-none
 returns-in-Ok-clause-none c =
