@@ -1,21 +1,12 @@
-ghost use Rattle.std.specs.Prelude.{◌≡◌, ◌↔◌, ◌+◌, ◌^◌, ◌<◌, ◌≤◌, pos, ◌≤ℤ◌, IsTrue, length, map};
+ghost use Rattle.std.specs.Prelude.{◌≡◌, ◌↔◌, ◌+◌, ◌^◌, ◌<◌, ◌≤◌, IsTrue, length, map};
 ghost use Rattle.std.specs.List.{All};
-ghost use Rattle.zr_base.specs.Steps.{IsNarrow};
-ghost use Rattle.zr_tree.specs.Form.{AreMultipliers, greatest_split, least_split};
 ghost use Rattle.zr_cases.specs.Cases.{bnode_of, rnode_of};
 ghost use Rattle.zr_cases.specs.Forms.{AreCases, AreCounted, IsAmong, IsBoxForm, IsBoxTree, IsCaseForm, IsSomePoint, box_count, case_count, is_forest_by};
 
 use crate::bnode::BNode;
 use crate::rnode::RNode;
 use zr_base::Point;
-
-/// The least number that a variable is split at, and the greatest.
-const LEAST_SPLIT: i64 = -4_611_686_018_427_387_904;
-
-const GREATEST_SPLIT: i64 = 4_611_686_018_427_387_903;
-
-/// There are fewer nodes than this in a list, and fewer multipliers at a node.
-const COUNT_LIMIT: usize = 1 << 32;
+use zr_tree::{COUNT_LIMIT, are_multipliers, is_number_to_split_at};
 
 /// Whether the nodes may be a refutation's.
 pub(crate) fn are_cases(nodes: &[RNode]) -> bool
@@ -193,12 +184,6 @@ fn is_box_form(node: &BNode) -> bool
     }
 }
 
-fn is_number_to_split_at(at: i64) -> bool
-    ensures { IsTrue result ↔ ((least_split ≤ℤ at) × (at ≤ℤ greatest_split)) }
-{
-    LEAST_SPLIT <= at && at <= GREATEST_SPLIT
-}
-
 fn has_number(point: &Point) -> bool
     ensures { IsTrue result ↔ IsSomePoint point.now }
 {
@@ -213,24 +198,4 @@ fn are_counted(mult: &[(u32, i128)]) -> bool
 {
     let few = mult.len() < COUNT_LIMIT;
     few & are_multipliers(mult)
-}
-
-/// Whether multipliers are at least 1 and their rows ascend.
-fn are_multipliers(mult: &[(u32, i128)]) -> bool
-    ensures { IsTrue result ↔ AreMultipliers mult.now }
-{
-    let mut low = 0;
-    let mut all = true;
-    for (row, by) in mult {
-        let row = *row as usize;
-        all &= is_next(low, row, *by);
-        low = row + 1;
-    }
-    all
-}
-
-fn is_next(low: usize, row: usize, by: i128) -> bool
-    ensures { IsTrue result ↔ ((low ≤ row) × (row < 2 ^ 32) × ((pos 1 ≤ℤ by) × IsNarrow by)) }
-{
-    low <= row && row < COUNT_LIMIT && by >= 1
 }

@@ -12,6 +12,7 @@ pub mod Presence
 pub mod Additions
 pub mod Combined
 pub mod ProofLaws
+pub mod PlayerForms
 pub mod Greatest
 pub mod TreeForms
 pub mod ColumnSums

@@ -107,7 +107,7 @@ fn add_terms(terms: &[(u32, i64)], negated: bool, by: i128, sums: &mut [i128]) -
 }
 
 /// The number, with its sign turned where `negated`.
-pub(crate) fn with_sign(negated: bool, number: i64) -> i128
+pub fn with_sign(negated: bool, number: i64) -> i128
     ensures { result ≡ signed negated number }
 {
     if negated {

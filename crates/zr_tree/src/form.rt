@@ -6,13 +6,14 @@ ghost use Rattle.zr_tree.specs.Form.{AreMultipliers, IsNodeForm, IsTree, child_c
 
 use crate::node::Node;
 
-/// The least number that a variable is split at, and the greatest.
-const LEAST_SPLIT: i64 = -4_611_686_018_427_387_904;
+/// The least number that a variable is split at: -2^62.
+pub const LEAST_SPLIT: i64 = -4_611_686_018_427_387_904;
 
-const GREATEST_SPLIT: i64 = 4_611_686_018_427_387_903;
+/// The greatest number that a variable is split at: 2^62 - 1.
+pub const GREATEST_SPLIT: i64 = 4_611_686_018_427_387_903;
 
-/// There are fewer nodes than this in a tree, and fewer slots at a leaf.
-const COUNT_LIMIT: usize = 1 << 32;
+/// There are fewer nodes than this in a tree: 2^32.
+pub const COUNT_LIMIT: usize = 1 << 32;
 
 /// Whether the nodes are a tree.
 pub(crate) fn is_tree(nodes: &[Node]) -> bool
@@ -65,7 +66,8 @@ fn is_form(node: &Node) -> bool
     }
 }
 
-fn is_number_to_split_at(at: i64) -> bool
+/// Whether a variable may be split at this number, which is -2^62 to 2^62 - 1.
+pub fn is_number_to_split_at(at: i64) -> bool
     ensures { IsTrue result ↔ ((least_split ≤ℤ at) × (at ≤ℤ greatest_split)) }
 {
     LEAST_SPLIT <= at && at <= GREATEST_SPLIT
@@ -77,22 +79,22 @@ fn is_scale(scale: i128) -> bool
     scale >= 0
 }
 
-/// Whether multipliers are at least 1 and their slots ascend.
-fn are_multipliers(mult: &[(u32, i128)]) -> bool
+/// Whether multipliers are at least 1 and the numbers that they stand at ascend.
+pub fn are_multipliers(mult: &[(u32, i128)]) -> bool
     ensures { IsTrue result ↔ AreMultipliers mult.now }
 {
     let mut low = 0;
     let mut all = true;
-    for (slot, by) in mult {
-        let slot = *slot as usize;
-        all &= is_next(low, slot, *by);
-        low = slot + 1;
+    for (number, by) in mult {
+        all &= is_next(low, *number, *by);
+        low = *number as usize + 1;
     }
     all
 }
 
-fn is_next(low: usize, slot: usize, by: i128) -> bool
-    ensures { IsTrue result ↔ ((low ≤ slot) × (slot < 2 ^ 32) × ((pos 1 ≤ℤ by) × IsNarrow by)) }
+fn is_next(low: usize, number: u32, by: i128) -> bool
+    ensures { IsTrue result
+        ↔ ((low ≤ number) × (number < 2 ^ 32) × ((pos 1 ≤ℤ by) × IsNarrow by)) }
 {
-    low <= slot && slot < COUNT_LIMIT && by >= 1
+    low <= number as usize && by >= 1
 }

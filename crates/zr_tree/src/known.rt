@@ -13,7 +13,7 @@ ghost use Rattle.zr_tree.specs.SlotRows.{IsLeft, left_terms, rows_at, signed_ter
 ghost use Rattle.zr_tree.specs.Visits.{EndTells, HasForms};
 
 use crate::combination::with_sign;
-use crate::slot::{Left, SlotRow, slot_row};
+use crate::slot::{Left, SlotRow, slot_count, slot_row};
 use zr_base::{Point, Wide, add_product, cross};
 use zr_game::{Leaf, Pair, Player, Side, Var};
 
@@ -46,9 +46,8 @@ fn meets_slots(player: &Player, leaf: &Leaf, point: &Point) -> Result<bool, Wide
         → BoundHolds (player_of player.now) point.now row)
         (known_wide (player_of player.now) (leaf_of leaf.now) point.now) }
 {
-    let count = player.rows.len() + (player.vars.len() + player.pairs.len()) * 2;
     let mut all = true;
-    for slot in 0..count {
+    for slot in 0..slot_count(player) {
         all &= meets_slot(player, leaf, slot, point)?;
     }
     Ok(all)

@@ -3,9 +3,12 @@ ghost use Rattle.zr_base.specs.Points.{PointOf};
 ghost use Rattle.zr_game.specs.Players.{GameOf, PlayerOf};
 ghost use Rattle.zr_game.specs.Forms.{IsGame, IsPlayer};
 ghost use Rattle.zr_game.specs.Feasible.{IsFeasible};
-ghost use Rattle.zr_game.specs.Leaves.{Bound, BoundHolds, LeafOf, root_leaf, slot_of, slots};
+ghost use Rattle.zr_game.specs.declared.leaf.Leaf.{Leaf};
+ghost use Rattle.zr_game.specs.Leaves.{Bound, BoundHolds, IsLeafOf, LeafOf, root_leaf, slot_of, slots};
 ghost use Rattle.zr_tree.specs.Nodes.{NodeOf};
 ghost use Rattle.zr_tree.specs.Form.{IsTree};
+ghost use Rattle.zr_tree.specs.Paths.{HasPlaces};
+ghost use Rattle.zr_tree.specs.Visits.{HasForms};
 ghost use Rattle.zr_tree.specs.Trees.{TreeOf, preorder};
 ghost use Rattle.zr_tree.specs.Right.{IsRefuted, IsRight};
 ghost use Rattle.zr_tree.specs.Steps.{HasWideProof, IsRefusedAt, Passes};
@@ -68,6 +71,14 @@ pub fn law_of_covers()
     ensures { (game : GameOf) → IsGame game → (i : ℕ) (player : PlayerOf) → IsPlayer game i player
         → (t : TreeOf) → IsCoverTree player (root_leaf player) t
         → HoldPoints player (cover_leaves player (root_leaf player) t) }
+{}
+
+/// What the rows of slots are read from: a game's players have it, and so has a leaf of a player.
+pub fn law_of_slots()
+    ensures player { (game : GameOf) → IsGame game
+        → (i : ℕ) (player : PlayerOf) → IsPlayer game i player → HasForms player }
+    ensures leaf { (player : PlayerOf) (leaf : Leaf) → IsLeafOf player leaf
+        → HasPlaces player leaf }
 {}
 
 /// A leaf has a slot for each of the player's rows, and two for each variable and for each pair.

@@ -134,7 +134,7 @@ fn split(
         ∷ high_child (player_of player.now) (leaf_of leaf) var at ∷ [])
         due.old.items due.new.items) }
 {
-    let mut second = copy(alloc, &leaf)?;
+    let mut second = copy_leaf(alloc, &leaf)?;
     raise_low(player, &mut second, var, at);
     put_next(due, second)?;
     let mut first = leaf;
@@ -155,15 +155,16 @@ fn choose(
         ∷ side_child (player_of player.now) (leaf_of leaf) pair Side.RowZero ∷ [])
         due.old.items due.new.items) }
 {
-    let mut second = copy(alloc, &leaf)?;
-    decide(player, &mut second, pair, Side::RowZero);
+    let mut second = copy_leaf(alloc, &leaf)?;
+    set_side(player, &mut second, pair, Side::RowZero);
     put_next(due, second)?;
     let mut first = leaf;
-    decide(player, &mut first, pair, Side::VarZero);
+    set_side(player, &mut first, pair, Side::VarZero);
     put_next(due, first)
 }
 
-fn copy(alloc: Global, leaf: &Leaf) -> Result<Leaf, AllocError>
+/// A leaf with the same bounds and sides.
+pub fn copy_leaf(alloc: Global, leaf: &Leaf) -> Result<Leaf, AllocError>
     ensures low { IfOk result (λ copy. copy.low.items ≡ leaf.now.low.items) }
     ensures high { IfOk result (λ copy. copy.high.items ≡ leaf.now.high.items) }
     ensures sides { IfOk result (λ copy. copy.sides.items ≡ leaf.now.sides.items) }
@@ -175,8 +176,9 @@ fn copy(alloc: Global, leaf: &Leaf) -> Result<Leaf, AllocError>
     })
 }
 
-/// Goes to the child of a split where the variable, if there is such a one, is at most `at`.
-fn lower_high(player: &Player, leaf: &mut Leaf, var: usize, at: i64)
+/// Goes to the child of a split where the variable is at most `at`; where the player has no such
+/// variable, the leaf stays as it is.
+pub fn lower_high(player: &Player, leaf: &mut Leaf, var: usize, at: i64)
     requires { IsLeafOf (player_of player.now) leaf.old }
     ensures lengths { IsLeafOf (player_of player.now) leaf.new }
     ensures leaf { leaf_of leaf.new ≡ low_child (player_of player.now) (leaf_of leaf.old) var at }
@@ -187,8 +189,9 @@ fn lower_high(player: &Player, leaf: &mut Leaf, var: usize, at: i64)
     }
 }
 
-/// Goes to the child of a split where the variable, if there is such a one, is above `at`.
-fn raise_low(player: &Player, leaf: &mut Leaf, var: usize, at: i64)
+/// Goes to the child of a split where the variable is above `at`, which is less than 2^62; where
+/// the player has no such variable, the leaf stays as it is.
+pub fn raise_low(player: &Player, leaf: &mut Leaf, var: usize, at: i64)
     requires leaf { IsLeafOf (player_of player.now) leaf.old }
     requires at { at ≤ℤ greatest_split }
     ensures lengths { IsLeafOf (player_of player.now) leaf.new }
@@ -200,8 +203,9 @@ fn raise_low(player: &Player, leaf: &mut Leaf, var: usize, at: i64)
     }
 }
 
-/// Goes to the child of a choice where the pair, if there is such a one, has this side.
-fn decide(player: &Player, leaf: &mut Leaf, pair: usize, side: Side)
+/// Goes to the child of a choice where the pair has this side; where the player has no such pair,
+/// the leaf stays as it is.
+pub fn set_side(player: &Player, leaf: &mut Leaf, pair: usize, side: Side)
     requires { IsLeafOf (player_of player.now) leaf.old }
     ensures lengths { IsLeafOf (player_of player.now) leaf.new }
     ensures leaf { leaf_of leaf.new

@@ -1,7 +1,8 @@
 ghost use Rattle.std.specs.Prelude.{◌≡◌, ◌↔◌, ◌<◌, ℕ, IsTrue, IfSome, if◌then◌else◌, length, option_map};
+ghost use Rattle.zr_base.specs.Steps.{IsNarrow};
 ghost use Rattle.zr_game.specs.Players.{pair_of, player_of};
 ghost use Rattle.zr_game.specs.Forms.{IsPairForm};
-ghost use Rattle.zr_game.specs.Leaves.{high_slot, low_slot, pair_slot, side_slot, slot_of};
+ghost use Rattle.zr_game.specs.Leaves.{LeafOf, high_slot, low_slot, pair_slot, side_slot, slot_of, slots};
 ghost use Rattle.zr_tree.specs.Paths.{HasPlaces};
 ghost use Rattle.zr_tree.specs.Right.{ArePresent};
 ghost use Rattle.zr_tree.specs.SlotRows.{IsLeft, rows_at, slot_bound};
@@ -11,7 +12,7 @@ use zr_game::{Leaf, Pair, Player, Side};
 
 /// The numbers of a slot's row by column.
 #[derive(Clone, Copy)]
-pub(crate) enum Left<'a> {
+pub enum Left<'a> {
     /// The numbers of a row or a pair, with their signs turned where `negated`.
     Terms {
         terms: &'a [(u32, i64)],
@@ -26,17 +27,33 @@ pub(crate) enum Left<'a> {
 
 /// The row of a slot: its numbers are at most `le`.
 #[derive(Clone, Copy)]
-pub(crate) struct SlotRow<'a> {
-    pub(crate) left: Left<'a>,
-    pub(crate) le: i128,
+pub struct SlotRow<'a> {
+    pub left: Left<'a>,
+    pub le: i128,
 }
 
-/// The row of a slot of the leaf, if it is present.
-pub(crate) fn slot_row<'a>(player: &'a Player, leaf: &Leaf, slot: usize) -> Option<SlotRow<'a>>
+/// How many slots a leaf of the player has: one for each row, and two for each variable and pair.
+///
+/// The player is one of a game's.
+pub fn slot_count(player: &Player) -> usize
+    requires { HasForms (player_of player.now) }
+    ensures { (leaf : LeafOf) → length (slots (player_of player.now) leaf) ≡ result }
+{
+    player.rows.len() + (player.vars.len() + player.pairs.len()) * 2
+}
+
+/// The row of a slot of the leaf, or None where the slot isn't present or there is none of this
+/// number.
+///
+/// The player is one of a game's; the leaf has a low and a high for each of its variables, and a
+/// side for each of its pairs. The row's terms ascend by column, each below the number of the
+/// player's variables, and its right side is within the limits of a step.
+pub fn slot_row<'a>(player: &'a Player, leaf: &Leaf, slot: usize) -> Option<SlotRow<'a>>
     requires forms { HasForms (player_of player.now) }
     requires places { HasPlaces (player_of player.now) leaf.now }
     ensures row { option_map slot_bound result ≡ slot_of (rows_at player.now leaf.now) slot }
     ensures form { IfSome result (λ row. IsLeft (length (player_of player.now).vars) row.left) }
+    ensures narrow { IfSome result (λ row. IsNarrow row.le) }
 {
     if slot < player.rows.len() {
         let row = &player.rows[slot];
@@ -67,6 +84,7 @@ fn var_row<'a>(var: usize, second: bool, low: Option<i64>, high: Option<i64>) ->
     ensures row { option_map slot_bound result ≡
         (if second then high_slot var high else low_slot var low) }
     ensures form { (columns : ℕ) → var < columns → IfSome result (λ row. IsLeft columns row.left) }
+    ensures narrow { IfSome result (λ row. IsNarrow row.le) }
 {
     if second {
         high_row(var, high)
@@ -78,6 +96,7 @@ fn var_row<'a>(var: usize, second: bool, low: Option<i64>, high: Option<i64>) ->
 fn low_row<'a>(var: usize, low: Option<i64>) -> Option<SlotRow<'a>>
     ensures row { option_map slot_bound result ≡ low_slot var low }
     ensures form { (columns : ℕ) → var < columns → IfSome result (λ row. IsLeft columns row.left) }
+    ensures narrow { IfSome result (λ row. IsNarrow row.le) }
 {
     match low {
         None => None,
@@ -91,6 +110,7 @@ fn low_row<'a>(var: usize, low: Option<i64>) -> Option<SlotRow<'a>>
 fn high_row<'a>(var: usize, high: Option<i64>) -> Option<SlotRow<'a>>
     ensures row { option_map slot_bound result ≡ high_slot var high }
     ensures form { (columns : ℕ) → var < columns → IfSome result (λ row. IsLeft columns row.left) }
+    ensures narrow { IfSome result (λ row. IsNarrow row.le) }
 {
     match high {
         None => None,
@@ -107,6 +127,7 @@ fn pair_row(pair: &Pair, second: bool, side: Side) -> Option<SlotRow<'_>>
         (if second then side_slot (pair_of pair.now) side else pair_slot (pair_of pair.now)) }
     ensures form { (columns : ℕ) → IsPairForm columns (pair_of pair.now)
         → IfSome result (λ row. IsLeft columns row.left) }
+    ensures narrow { IfSome result (λ row. IsNarrow row.le) }
 {
     let terms = pair.coef.as_slice();
     let add = i128::from(pair.add);

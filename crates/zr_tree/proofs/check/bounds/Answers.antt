@@ -3,7 +3,7 @@ use Rattle.std.specs.Int.{w128}
 use Rattle.std.proofs.lemmas.Int.{to_z-of_z}
 use Rattle.std.proofs.lemmas.Result.{MatchResult-weaker, on_ok_weaker}
 use Rattle.zr_game.specs.Players.{PlayerOf, player_of}
-use Rattle.zr_game.specs.Forms.{IsPlayer, IsPlayerForm}
+use Rattle.zr_game.specs.Forms.{IsPlayer}
 use Rattle.zr_game.specs.Games.{game_of}
 use Rattle.zr_game.specs.Leaves.{bound_with, root_leaf}
 use Rattle.zr_game.proofs.Items.{found, one, read_below}
@@ -14,6 +14,7 @@ use Rattle.zr_tree.specs.Steps.{IsRefusedAt, IsWideForRow, Passes}
 use Rattle.zr_tree.proofs.Descent.{holds_at_root}
 use Rattle.zr_tree.proofs.Forests.{tree_of}
 use Rattle.zr_tree.proofs.Greatest.{at_most_greatest}
+use Rattle.zr_tree.proofs.PlayerForms.{has_forms}
 use Rattle.zr_tree.proofs.PassLaws.{exact_told, right_if}
 use Rattle.zr_tree.proofs.check.bounds.Goals as goal
 use Rattle.zr_tree.proofs.check.bounds.Goals.{After-index-player}
@@ -21,19 +22,13 @@ use Rattle.zr_tree.proofs.check.bounds.Goals.{After-index-player}
 is_player : (c : After-index-player) → IsPlayer (game_of c.args.game.now) c.args.i (player_of c.index-player.result.now)
 is_player c = found player_of c.args.game.now.players.items c.args.i c.index-player.result.now (read_below player_of c.args.game.now.players.items c.args.i c.requires.number) c.index-player.ensures
 
-form : (c : After-index-player) → IsPlayerForm (game_of c.args.game.now) c.args.i (player_of c.index-player.result.now)
-form c = c.args.game.now.sound.players c.args.i (player_of c.index-player.result.now) (is_player c)
-
 same : (c : After-index-player) (player : PlayerOf) → IsPlayer (game_of c.args.game.now) c.args.i player → player_of c.index-player.result.now ≡ player
 same c player is = one (game_of c.args.game.now) c.args.i (player_of c.index-player.result.now) player (is_player c) is
 
 pub walk-requires-clause-forms : goal.walk-requires-clause-forms
 walk-requires-clause-forms c =
-    let f = form ((goal.at.walk-requires-clause-forms c).After-index-player) in
-    let r = f.row_count in
-    let v = f.var_count in
-    let p = f.pair_count in
-    record { rows = f.rows; pairs = f.pairs; few = omega (arith, r, v, p) }
+    let at = (goal.at.walk-requires-clause-forms c).After-index-player in
+    has_forms (game_of c.args.game.now) c.args.game.now.sound c.args.i (player_of c.index-player.result.now) (is_player at)
 
 pub walk-requires-clause-places : goal.walk-requires-clause-places
 walk-requires-clause-places c =

@@ -1,7 +1,7 @@
 use Rattle.std.proofs.Common.{◌≡◌, arith, sym, ap, subst, ◌∙◌, length, map}
 use Rattle.std.proofs.lemmas.Result.{MatchResult-weaker, on_ok_weaker}
 use Rattle.zr_game.specs.Players.{PlayerOf, player_of}
-use Rattle.zr_game.specs.Forms.{IsPlayer, IsPlayerForm}
+use Rattle.zr_game.specs.Forms.{IsPlayer}
 use Rattle.zr_game.specs.Games.{game_of}
 use Rattle.zr_game.specs.Leaves.{root_leaf}
 use Rattle.zr_game.proofs.Items.{found, one, read_below}
@@ -11,6 +11,7 @@ use Rattle.zr_tree.specs.Covers.{KeepsCover}
 use Rattle.zr_tree.specs.CoverSteps.{CoverPasses, IsRefusedCover, IsWideForCover}
 use Rattle.zr_tree.proofs.CoverLaws.{cover_holds}
 use Rattle.zr_tree.proofs.Greatest.{at_most_greatest}
+use Rattle.zr_tree.proofs.PlayerForms.{has_forms}
 use Rattle.zr_tree.proofs.PassLaws.{exact_told, right_if}
 use Rattle.zr_tree.proofs.check.cover.Goals as goal
 use Rattle.zr_tree.proofs.check.cover.Goals.{After-index-player}
@@ -18,19 +19,13 @@ use Rattle.zr_tree.proofs.check.cover.Goals.{After-index-player}
 is_player : (c : After-index-player) → IsPlayer (game_of c.args.game.now) c.args.i (player_of c.index-player.result.now)
 is_player c = found player_of c.args.game.now.players.items c.args.i c.index-player.result.now (read_below player_of c.args.game.now.players.items c.args.i c.requires.number) c.index-player.ensures
 
-form : (c : After-index-player) → IsPlayerForm (game_of c.args.game.now) c.args.i (player_of c.index-player.result.now)
-form c = c.args.game.now.sound.players c.args.i (player_of c.index-player.result.now) (is_player c)
-
 same : (c : After-index-player) (player : PlayerOf) → IsPlayer (game_of c.args.game.now) c.args.i player → player_of c.index-player.result.now ≡ player
 same c player is = one (game_of c.args.game.now) c.args.i (player_of c.index-player.result.now) player (is_player c) is
 
 pub walk-requires-clause-forms : goal.walk-requires-clause-forms
 walk-requires-clause-forms c =
-    let f = form ((goal.at.walk-requires-clause-forms c).After-index-player) in
-    let r = f.row_count in
-    let v = f.var_count in
-    let p = f.pair_count in
-    record { rows = f.rows; pairs = f.pairs; few = omega (arith, r, v, p) }
+    let at = (goal.at.walk-requires-clause-forms c).After-index-player in
+    has_forms (game_of c.args.game.now) c.args.game.now.sound c.args.i (player_of c.index-player.result.now) (is_player at)
 
 pub walk-requires-clause-places : goal.walk-requires-clause-places
 walk-requires-clause-places c =

@@ -14,4 +14,4 @@ returns c =
     let s = c.in_ok-second.ensures in
     let same = copied c.in_ok-second.second c.args.leaf s.low s.high s.sides in
     let next = c.in_ok-put_next.ensures in
-    on_ok_weaker c.put_next-2.result (λ first. opened_two player (side_child player (leaf_of c.args.leaf) c.args.pair VarZero) (side_child player (leaf_of c.args.leaf) c.args.pair RowZero) c.decide-2.new.leaf c.decide.new.leaf c.args.due.now.items c.put_next-2.new.due.items c.decide-2.ensures.lengths c.decide.ensures.lengths c.decide-2.ensures.leaf (c.decide.ensures.leaf ∙ ap (λ (l : LeafOf). side_child player l c.args.pair RowZero) same) (first ∙ ap (λ (ls : List Leaf). c.decide-2.new.leaf ∷ ls) next)) c.put_next-2.ensures
+    on_ok_weaker c.put_next-2.result (λ first. opened_two player (side_child player (leaf_of c.args.leaf) c.args.pair VarZero) (side_child player (leaf_of c.args.leaf) c.args.pair RowZero) c.set_side-2.new.leaf c.set_side.new.leaf c.args.due.now.items c.put_next-2.new.due.items c.set_side-2.ensures.lengths c.set_side.ensures.lengths c.set_side-2.ensures.leaf (c.set_side.ensures.leaf ∙ ap (λ (l : LeafOf). side_child player l c.args.pair RowZero) same) (first ∙ ap (λ (ls : List Leaf). c.set_side-2.new.leaf ∷ ls) next)) c.put_next-2.ensures

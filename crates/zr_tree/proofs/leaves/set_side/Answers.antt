@@ -4,7 +4,7 @@ use Rattle.zr_game.specs.Players.{pair_of, player_of}
 use Rattle.zr_game.specs.Leaves.{decided, leaf_of}
 use Rattle.zr_tree.proofs.Listing.{is_below}
 use Rattle.zr_tree.proofs.PathLaws.{set_side}
-use Rattle.zr_tree.proofs.leaves.decide.Goals as goal
+use Rattle.zr_tree.proofs.leaves.set_side.Goals as goal
 
 pub returns-then-pair-len-clause-leaf : goal.returns-then-pair-len-clause-leaf
 returns-then-pair-len-clause-leaf c =
