@@ -30,7 +30,7 @@ use Rattle.zr_convex.proofs.Duals.{AreDuals, dual, dual_scaled}
 use Rattle.zr_convex.proofs.Firsts.{dot_firsts, firsts_length}
 use Rattle.zr_convex.proofs.Insides.{in_of_lies, lies_of_in, union_of}
 use Rattle.zr_convex.proofs.Items.{Fits, HasDen, IsIn, IsPart, Item, Level, NoLess, all_level, fit_scaled, found, mean_is, parts_of, same_parts, scaled_items, sum_at, sum_over, sum_over_scaled, total_is}
-use Rattle.zr_convex.proofs.Meeting.{Feasible, LineHolds, MeetsChoices}
+use Rattle.zr_system.proofs.Meeting.{Feasible, LineHolds, MeetsChoices}
 use Rattle.zr_convex.proofs.Orders.{cancelled}
 use Rattle.zr_convex.proofs.Solution.{Facts, base_holds, choices_hold, least_of, slopes_of, solution, unit_positive}
 

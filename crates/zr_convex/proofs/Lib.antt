@@ -3,10 +3,8 @@ pub mod Common
 pub mod Dots
 pub mod Duals
 pub mod Items
-pub mod Rows
 pub mod CrossSums
 pub mod Insides
-pub mod Meeting
 pub mod Solution
 pub mod Firsts
 pub mod Equilibria

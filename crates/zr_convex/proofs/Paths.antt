@@ -19,8 +19,8 @@ use Rattle.zr_system.specs.Choices.{AreSlotsDecided, HasCompleteSolution, IsComp
 use Rattle.zr_system.specs.Forms.{FormHolds}
 use Rattle.zr_system.specs.Lines.{all_lines, base_lines, choice_lines, path_lines, row_of_line}
 use Rattle.zr_system.specs.Regions.{LeavesOf, is_exact, is_present, leaf_count, slot_count}
-use Rattle.zr_convex.proofs.Meeting.{LineHolds, Meets, MeetsChoices}
-use Rattle.zr_convex.proofs.Rows.{all_mapped, all_of_each}
+use Rattle.zr_system.proofs.Meeting.{LineHolds, Meets, MeetsChoices}
+use Rattle.zr_system.proofs.Joined.{all_mapped, all_of_each}
 
 contains_left : (p q : List Choice) (c : Choice) → Contains p c → Contains (p ++ q) c
 contains_left p q c h = (

@@ -32,9 +32,9 @@ use Rattle.zr_convex.proofs.Dots.{by_columns, dot, dot_add, dot_mul, sum_to_le, 
 use Rattle.zr_convex.proofs.Duals.{AreDuals}
 use Rattle.zr_convex.proofs.Insides.{union_of}
 use Rattle.zr_convex.proofs.Items.{Fits, Item, Level, lot_else, lot_here, share_level, share_nil, share_of, shares, slot_holds, sum_at, sum_over, weight_nonneg, weight_of, weights}
-use Rattle.zr_convex.proofs.Meeting.{Feasible, LineHolds, Meets, MeetsChoices}
+use Rattle.zr_system.proofs.Meeting.{Feasible, LineHolds, Meets, MeetsChoices}
 use Rattle.zr_convex.proofs.Orders.{cancelled, nonneg_mul, positive_sign, scaled, zero_factor}
-use Rattle.zr_convex.proofs.Rows.{each_if, each_to, each_unless}
+use Rattle.zr_system.proofs.Joined.{each_if, each_to, each_unless}
 
 -- a number of a point that lies m times the direction from the base
 moved_number : (m : ℤ) (xs ys : List ℤ) (v : ℕ) → length xs ≡ length ys

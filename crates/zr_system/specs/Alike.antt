@@ -1,5 +1,5 @@
 -- Strategies under which every quantity of points has the same expected value.
-use Rattle.std.specs.Prelude.{ℕ, ◌<◌, ℤ, pos, ◌<ℤ◌, length}
+use Rattle.std.specs.Prelude.{ℕ, ◌<◌, pos, ◌<ℤ◌, length}
 use Rattle.zr_base.specs.Fractions.{Fraction, IsSame, over}
 use Rattle.zr_base.specs.Points.{IsSamePoint, PointOf}
 use Rattle.zr_game.specs.Profiles.{Profile, Strategy, strategy_of, total, weighted}

@@ -1,5 +1,5 @@
 -- What leaves owe the system: together they hold all of a player's feasible points.
-use Rattle.std.specs.Prelude.{◌≡◌, ℕ, ◌<◌, ℤ, pos, ◌<ℤ◌, true, Some, length}
+use Rattle.std.specs.Prelude.{◌≡◌, ℕ, ◌<◌, pos, ◌<ℤ◌, true, Some, length}
 use Rattle.std.specs.List.{All}
 use Rattle.zr_base.specs.Points.{PointOf}
 use Rattle.zr_game.specs.Feasible.{IsFeasible}

@@ -1,5 +1,5 @@
 -- The profile that a solution draws: of each leaf with weight its shares over its weight.
-use Rattle.std.specs.Prelude.{ℕ, zero, suc, ℤ, pos, int_lt, List, [], ◌∷◌, ◌++◌, length, if◌then◌else◌}
+use Rattle.std.specs.Prelude.{ℕ, zero, suc, ℤ, pos, int_lt, [], ◌∷◌, ◌++◌, length, if◌then◌else◌}
 use Rattle.zr_base.specs.Points.{PointOf}
 use Rattle.zr_game.specs.Players.{GameOf}
 use Rattle.zr_game.specs.Profiles.{Part, Profile, Strategy}

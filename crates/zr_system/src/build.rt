@@ -15,7 +15,7 @@ ghost use Rattle.zr_system.specs.Asked.{AreLeaves, ChoiceExists, HasWideCoeffici
 
 use crate::leaves::{Leaves, SystemError};
 use crate::line::{Line, lines};
-use crate::number::number;
+use crate::number::number_in_row;
 use crate::unknown::{Unknown, unknowns};
 use std::alloc::{AllocError, Global};
 use zr_base::{NoMemory, Wide};
@@ -23,7 +23,7 @@ use zr_game::{Choice, Game, Kind};
 use zr_lin::{Ineq, System};
 
 /// Whether a row is strict.
-fn is_strict(line: Line) -> bool
+pub fn is_strict(line: Line) -> bool
     ensures { (game : GameOf) (leaves : LeavesOf) → result ≡ (row_of_line game leaves line).strict }
 {
     matches!(line, Line::Positive { .. })
@@ -60,7 +60,7 @@ fn number_of(
     ensures wide_ends { (w : AWide) → IsWideAt (game_of game.now) (leaves_of leaves.now) line
         (slice_index_or order.now j Unknown.One) w → IsErr result }
 {
-    number(game, leaves, line, order[j as usize])
+    number_in_row(game, leaves, line, order[j as usize])
 }
 
 /// The numbers of the unknowns in a row, by column, as far as they aren't 0.
@@ -123,7 +123,7 @@ fn ineq(
         Ok(coef) => coef,
         Err(error) => return Err(error),
     };
-    match number(game, leaves, line, Unknown::One) {
+    match number_in_row(game, leaves, line, Unknown::One) {
         Ok(alone) => Ok(Ineq {
             coef,
             le: -alone,

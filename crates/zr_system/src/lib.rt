@@ -12,11 +12,12 @@ mod reading;
 mod slot;
 mod unknown;
 
-pub use build::rows;
+pub use build::{is_strict, rows};
 pub use counts::{is_exact, leaf_count, named_count, player_count, var_count};
-pub use laws::law_of_worked_counts;
+pub use laws::{law_of_columns, law_of_worked_counts};
 pub use leaves::{Leaves, Region, SystemError};
-pub use line::Line;
+pub use line::{Line, base_lines};
+pub use number::number_in_row;
 pub use present::{is_present, slot_count};
 pub use unknown::{Unknown, unknowns};
 pub use zr_base::NoMemory;

@@ -4,13 +4,15 @@ ghost use Rattle.zr_game.specs.Games.{game_of};
 ghost use Rattle.zr_system.specs.Regions as content;
 ghost use Rattle.zr_system.specs.Regions.{leaves_of};
 ghost use Rattle.zr_system.specs.Unknowns.{list_to};
-ghost use Rattle.zr_system.specs.Lines.{all_lines, base_lines, choice_lines, dual_lines, leaf_lines, off_lines, other_lines, path_lines, player_lines, pull_lines, reach_lines, slot_lines};
+ghost use Rattle.zr_system.specs.Lines as in_order;
+ghost use Rattle.zr_system.specs.Lines.{all_lines, choice_lines, dual_lines, leaf_lines, off_lines, other_lines, path_lines, player_lines, pull_lines, reach_lines, slot_lines};
 ghost use Rattle.zr_system.specs.Asked.{AreLeaves, ChoiceExists, LeafExists};
 
 use crate::counts::{is_exact, leaf_count, named_count, player_count, var_count};
 use crate::leaves::Leaves;
 use crate::present::{is_present, slot_count};
 use std::alloc::{AllocError, Global};
+use zr_base::NoMemory;
 use zr_game::{Choice, Game};
 
 /// A row of the system, by what it says. `negated` tells of the second of two rows that say
@@ -81,6 +83,19 @@ pub enum Line {
     },
 }
 
+/// The rows of the system where no choice is made, in their order.
+pub fn base_lines(alloc: Global, game: &Game, leaves: &Leaves) -> Result<Vec<Line>, NoMemory>
+    requires { AreLeaves (game_of game.now) leaves.now }
+    ensures { IfOk result (λ list. list.items ≡ in_order.base_lines (game_of game.now)
+        (leaves_of leaves.now)) }
+{
+    let mut list = Vec::new(alloc);
+    match push_base(&mut list, game, leaves) {
+        Ok(()) => Ok(list),
+        Err(_) => Err(NoMemory),
+    }
+}
+
 /// The rows of the system under a path of choices, in their order.
 pub(crate) fn lines(
     alloc: Global,
@@ -120,7 +135,7 @@ fn push_path(
 /// Appends the rows where no choice is made.
 fn push_base(list: &mut Vec<Line>, game: &Game, leaves: &Leaves) -> Result<(), AllocError>
     requires { AreLeaves (game_of game.now) leaves.now }
-    ensures { OnOk result (list.new.items ≡ list.old.items ++ base_lines (game_of game.now)
+    ensures { OnOk result (list.new.items ≡ list.old.items ++ in_order.base_lines (game_of game.now)
         (leaves_of leaves.now)) }
 {
     for i in 0..player_count(game) {

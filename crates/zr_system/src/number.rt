@@ -209,8 +209,10 @@ fn own_part(item: &Named, i: usize, u: Unknown, sum: i128) -> i128
     }
 }
 
-/// The number of an unknown in a row.
-pub(crate) fn number(game: &Game, leaves: &Leaves, line: Line, u: Unknown) -> Result<i128, Wide>
+/// The number of an unknown in a row; of the common denominator, the number that stands by itself.
+///
+/// `Wide` exactly where a step of the sum is too wide, which is that of a named item's row.
+pub fn number_in_row(game: &Game, leaves: &Leaves, line: Line, u: Unknown) -> Result<i128, Wide>
     requires leaves { AreLeaves (game_of game.now) leaves.now }
     requires line { LineExists (game_of game.now) (leaves_of leaves.now) line }
     requires unknown { IsUnknown (game_of game.now) (leaves_of leaves.now) u }

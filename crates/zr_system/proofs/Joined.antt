@@ -1,5 +1,5 @@
 -- Facts about each item of joined lists.
-use Rattle.std.proofs.Common.{◌≡◌, ◌≢◌, ℕ, zero, suc, ◌<◌, arith, refl, sym, subst, Bool, true, false, if◌then◌else◌, List, [], ◌∷◌, ◌++◌, length, get_or, map, All, ⊎_elim}
+use Rattle.std.proofs.Common.{◌≡◌, ◌≢◌, ℕ, zero, suc, ◌<◌, arith, refl, sym, subst, Bool, true, false, if◌then◌else◌, List, [], ◌∷◌, map, All, ⊎_elim}
 use Rattle.std.proofs.lemmas.Bool.{cases_eq}
 use Rattle.zr_base.proofs.Members.{each_back, each_front, each_join, each_of_all}
 use Rattle.zr_base.proofs.Worth.{Each}

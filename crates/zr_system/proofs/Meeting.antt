@@ -1,5 +1,5 @@
 -- Numbers that meet one side of each choice.
-use Rattle.std.proofs.Common.{◌≡◌, ℕ, ◌<◌, ℤ, pos, ◌<ℤ◌, true, IsTrue, List, length, ◌⊎◌}
+use Rattle.std.proofs.Common.{◌≡◌, ℕ, ◌<◌, ℤ, pos, ◌<ℤ◌, true, IsTrue, length, ◌⊎◌}
 use Rattle.zr_base.proofs.Worth.{Each}
 use Rattle.zr_game.specs.Feasible.{IsFeasible}
 use Rattle.zr_game.specs.Players.{GameOf}
