@@ -1,15 +1,17 @@
 -- Each row of the system is over the columns, so that it holds there exactly where its form holds.
-use Rattle.std.proofs.Common.{◌≡◌, ℕ, zero, suc, ◌+◌, ◌<◌, arith, refl, sym, ap, ◌∙◌, ℤ, pos, neg_ℤ, ◌+ℤ◌, ◌*ℤ◌, Bool, true, false, IsTrue, Option, Some, None, if◌then◌else◌, ◌==◌, List, [], ◌∷◌, ◌++◌, length, get_or, map, All, ◌⊎◌, inl, inr, ◌↔◌}
+use Rattle.std.proofs.Common.{◌≡◌, ℕ, zero, suc, ◌+◌, ◌<◌, arith, refl, sym, ap, subst, ◌∙◌, ℤ, pos, neg_ℤ, ◌+ℤ◌, ◌*ℤ◌, Bool, true, false, IsTrue, Option, Some, None, if◌then◌else◌, ◌==◌, List, [], ◌∷◌, ◌++◌, length, get_or, map, All, ◌⊎◌, inl, inr, ◌↔◌}
 use Rattle.std.specs.Option.{is_some, option_map_or}
 use Rattle.std.specs.Ordering.{int_eq}
-use Rattle.std.proofs.lemmas.Bool.Decides.{Decides-int_eq}
+use Rattle.std.proofs.lemmas.Bool.Decides.{Decides-int_eq, nat_tests}
 use Rattle.std.proofs.lemmas.Int.{ints}
-use Rattle.zr_base.specs.Terms.{value_at}
+use Rattle.zr_base.specs.Sums.{sum_to}
+use Rattle.zr_base.specs.Terms.{coef_at, value_at}
+use Rattle.zr_base.proofs.Dense.{sum_to_same}
 use Rattle.zr_base.proofs.Members.{each_join, each_of_all}
 use Rattle.zr_base.proofs.Ring.{spread}
 use Rattle.zr_base.proofs.Worth.{Each}
-use Rattle.zr_lin.specs.DenseRows.{IsBelow}
-use Rattle.zr_lin.specs.Ineqs.{IneqHolds, Solves}
+use Rattle.zr_lin.specs.DenseRows.{DenseHolds, IsBelow}
+use Rattle.zr_lin.specs.Ineqs.{IneqHolds, Solves, dense}
 use Rattle.zr_game.specs.Leaves.{Bound, slot_of}
 use Rattle.zr_game.specs.Named.{NamedOf, NamedPoint, NamedRay}
 use Rattle.zr_game.specs.Players.{GameOf}
@@ -34,6 +36,64 @@ slot_below : (xs : List (Option Bound)) (s : ℕ) → IsTrue (is_some (slot_of x
 slot_below [] s h = absurd cc
 slot_below (x ∷ xs) zero h = omega arith
 slot_below (x ∷ xs) (suc s) h = let r = slot_below xs s h in omega (arith, r)
+
+-- the first of the summands apart
+first_apart : (n : ℕ) (f : ℕ → ℤ) → sum_to (suc n) f ≡ f 0 +ℤ sum_to n (λ k. f (suc k))
+first_apart zero f = omega (arith, ints)
+first_apart (suc n) f = let r = first_apart n f in omega (arith, ints, r)
+
+by_place : (us : List Unknown) (f : Unknown → ℤ)
+    → total us f ≡ sum_to (length us) (λ j. f (get_or us j One))
+by_place [] f = refl
+by_place (u ∷ us) f =
+    let r = by_place us f in
+    let a = first_apart (length us) (λ j. f (get_or (u ∷ us) j One)) in
+    omega (arith, ints, r, a)
+
+unlisted : (f : Form) (low : ℕ) (us : List Unknown) (j : ℕ) → j < low
+    → coef_at (terms_from low us f) j ≡ pos 0
+unlisted f low [] j h = refl
+unlisted f low (u ∷ us) j h =
+    tested (int_eq (number_at f u) (pos 0)) (unlisted f (low + 1) us j (omega (arith, h)))
+  where
+    tested : (b : Bool) → coef_at (terms_from (low + 1) us f) j ≡ pos 0
+        → coef_at (if b then terms_from (low + 1) us f else
+        (low, number_at f u) ∷ terms_from (low + 1) us f) j ≡ pos 0
+    tested true r = r
+    tested false r =
+        let e : (low == j) ≡ false = grind (arith, nat_tests) in rw e r
+
+-- the number that is listed at a column is that of its unknown
+pub coef_listed : (f : Form) (low : ℕ) (us : List Unknown) (j : ℕ) → j < length us
+    → coef_at (terms_from low us f) (low + j) ≡ number_at f (get_or us j One)
+coef_listed f low [] j h = absurd (omega arith)
+coef_listed f low (u ∷ us) zero h =
+    let o : low + 0 ≡ low = omega arith in
+    rw o (tested (int_eq (number_at f u) (pos 0)) refl
+    (unlisted f (low + 1) us low (omega arith)))
+  where
+    tested : (b : Bool) → int_eq (number_at f u) (pos 0) ≡ b
+        → coef_at (terms_from (low + 1) us f) low ≡ pos 0
+        → coef_at (if int_eq (number_at f u) (pos 0) then terms_from (low + 1) us f else
+        (low, number_at f u) ∷ terms_from (low + 1) us f) low ≡ number_at f u
+    tested true e r =
+        let n : number_at f u ≡ pos 0 = (Decides-int_eq (number_at f u) (pos 0)).0 e in
+        rw e (r ∙ sym n)
+    tested false e r = let s : (low == low) ≡ true = grind (arith, nat_tests) in rw (e, s) refl
+coef_listed f low (u ∷ us) (suc j) h =
+    let o : low + 1 + j ≡ low + suc j = omega arith in
+    tested (int_eq (number_at f u) (pos 0))
+    (subst (λ (i : ℕ). coef_at (terms_from (low + 1) us f) i ≡ number_at f (get_or us j One)) o
+    (coef_listed f (low + 1) us j (omega (arith, h))))
+  where
+    tested : (b : Bool)
+        → coef_at (terms_from (low + 1) us f) (low + suc j) ≡ number_at f (get_or us j One)
+        → coef_at (if b then terms_from (low + 1) us f else
+        (low, number_at f u) ∷ terms_from (low + 1) us f) (low + suc j)
+        ≡ number_at f (get_or us j One)
+    tested true r = r
+    tested false r =
+        let e : (low == low + suc j) ≡ false = grind (arith, nat_tests) in rw e r
 
 module _ (game : GameOf) (leaves : LeavesOf) where
   -- the row is over the columns
@@ -104,7 +164,7 @@ module _ (game : GameOf) (leaves : LeavesOf) where
       over_turned negated _ ((λ k p. inr (h, p)), inr (inl refl))
 
   -- a slot that stands in the list of slots is below their number
-  present_below : (i k s : ℕ) → IsTrue (is_present game leaves i k s)
+  pub present_below : (i k s : ℕ) → IsTrue (is_present game leaves i k s)
       → s < slot_count game leaves i k
   present_below i k s h = slot_below (all_slots game leaves i k) s h
 
@@ -239,6 +299,24 @@ module _ (game : GameOf) (leaves : LeavesOf) where
         (value_at (terms_from 0 (columns game leaves) row.left) by_column)
         (number_at row.left One) (x One)
         (e ∙ ap (λ t. t +ℤ number_at row.left One *ℤ x One) (sym v))
+
+    -- the row over the columns, with a number at each
+    pub dense_holds : (row : FormRow) → IsOver game leaves row.left → FormHolds x row
+        → DenseHolds (length (columns game leaves)) by_column (x One)
+        (dense (ineq_over (columns game leaves) row))
+    dense_holds row over h =
+        let us = columns game leaves in
+        let e = expanded game leaves x row.left over in
+        let t = by_place us (λ w. number_at row.left w *ℤ x w) in
+        let s = sum_to_same (length us) (λ j. coef_at (terms_from 0 us row.left) j *ℤ by_column j)
+        (λ j. number_at row.left (get_or us j One) *ℤ by_column j)
+        (λ j p. let o : 0 + j ≡ j = omega arith in ap (λ z. z *ℤ by_column j)
+        (ap (λ (k : ℕ). coef_at (terms_from 0 us row.left) k) (sym o)
+        ∙ coef_listed row.left 0 us j p)) in
+        (right_side row.strict (amount row.left x)
+        (sum_to (length us) (λ j. coef_at (terms_from 0 us row.left) j *ℤ by_column j))
+        (number_at row.left One) (x One)
+        (e ∙ ap (λ z. z +ℤ number_at row.left One *ℤ x One) (t ∙ sym s))).0 h
 
     to_columns : (lines : List Line) → Each IsRowOver lines
         → Each (FormHolds x) (map (row_of_line game leaves) lines)
