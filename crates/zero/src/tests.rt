@@ -1,3 +1,4 @@
+mod certificates;
 mod faults;
 mod followers;
 
@@ -292,7 +293,9 @@ fn certificates_are_accepted(rt: HostRuntime) -> Result<(), Fail> {
     Ok(())
 }
 
-const BIG: &str = "part 100000000000000000000000000000000000000 1 1";
+const GREAT_FIRST: &str = "part 100000000000000000000000000000000000000 1 0";
+
+const GREAT_SECOND: &str = "part 100000000000000000000000000000000000000 1 1";
 
 /// Copies of the certificate for matching pennies with one line changed.
 #[test]
@@ -343,8 +346,8 @@ fn changed_certificates_are_refused(rt: HostRuntime) -> Result<(), Fail> {
         let ran = check_over(alloc, PENNIES, cert.as_str())?;
         compare(&rt, &ran, (6, "", said));
     }
-    let big = with_line(alloc, PENNIES_CERT, 5, BIG)?;
-    let both = with_line(alloc, big.as_str(), 6, BIG)?;
+    let first = with_line(alloc, PENNIES_CERT, 5, GREAT_FIRST)?;
+    let both = with_line(alloc, first.as_str(), 6, GREAT_SECOND)?;
     let ran = check_over(alloc, PENNIES, both.as_str())?;
     compare(&rt, &ran, (6, "", "zero: certificate: line 6: wide\n"));
     Ok(())

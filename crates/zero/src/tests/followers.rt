@@ -2,11 +2,11 @@ use crate::tests::{check_over, compare, run_over};
 use std::test::Fail;
 
 /// The leader pays 2x - 3f, with x at most 2; its follower takes the greatest f that is at most x.
-const GREATEST: &str =
+pub const GREATEST: &str =
     r#"{"format":"zero-game/1","players":[{"name":"L","vars":[{"name":"x","up":2}],"cost":[["x",2],["f",-3]],
 "followers":[{"vars":["f"],"rows":[{"terms":[["f",1],["x",-1]],"le":0}],"cost":[["f",-1]]}]}]}"#;
 
-const GREATEST_CERT: &str = "zero-cert/1
+pub const GREATEST_CERT: &str = "zero-cert/1
 kind pure 1
 verdict profile
 player 0 total 1 parts 1
