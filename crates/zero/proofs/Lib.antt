@@ -1,4 +1,3 @@
-pub mod OneSaying
 pub mod CommandLemmas
 pub mod TextLemmas
 pub mod WritingLemmas

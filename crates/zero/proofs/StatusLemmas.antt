@@ -1,5 +1,6 @@
 -- The status of words that ask for nothing, or for what isn't built.
-use Rattle.std.proofs.Common.{◌≡◌, ℕ, refl, inl, inr, arith}
+use Rattle.std.proofs.Common.{◌≡◌, ℕ, refl, inl, inr, arith, String, Option, Some, None}
+use Rattle.std.specs.declared.alloc.Global.{Global}
 use Rattle.zr_io.specs.Contents.{Bytes, Contents}
 use Rattle.zr_words.specs.Words.{Words}
 use Rattle.zr_words.specs.Commands.{IsFaulty}
@@ -9,11 +10,16 @@ use Rattle.zero.specs.declared.text.Text.{Text}
 use Rattle.zero.specs.declared.text.Text.TheVariants.{Game, Cert}
 use Rattle.zero.specs.Commands.{IsGameName, IsUnbuiltCommand}
 use Rattle.zero.specs.Reads.{IsDue}
-use Rattle.zero.specs.Refusals.{IsCause, status_of}
+use Rattle.zero.specs.Refusals.{IsCause, IsHelp, status_of}
 use Rattle.zero.specs.Told.{IsStatus}
 use Rattle.zero.proofs.CommandLemmas.{named_or_faulty, named_or_unbuilt}
 
 module _ (words : Words) (contents : Contents) where
+  -- words that have no form, or are of no action, ask for nothing
+  pub faulty_of_help : (help : Option (String Global)) → IsHelp words help → IsFaulty words
+  faulty_of_help None h = h.1
+  faulty_of_help (Some text) h = λ command asks. h asks.said asks.options asks.form
+
   -- a text that is due is named, or its certificate's game is
   due_name : (text : Text) (name : Bytes) → IsDue words contents text name → (game : Bytes) × IsGameName words game
   due_name Game name due = (name, due)
@@ -38,7 +44,7 @@ module _ (words : Words) (contents : Contents) where
   -- those that ask for what isn't built have the status 16
   pub unbuilt_status : (refusal : Refusal) → IsCause words contents refusal → IsUnbuiltCommand words
       → IsStatus 16 (status_of refusal)
-  unbuilt_status (Usage help) h unbuilt = absurd (h unbuilt.1.0 unbuilt.1.1)
+  unbuilt_status (Usage help) h unbuilt = absurd (faulty_of_help help h unbuilt.1.0 unbuilt.1.1)
   unbuilt_status (CannotRead text name) h unbuilt =
       let due = due_name text name.now h in absurd (named_or_unbuilt words due.0 due.1 unbuilt)
   unbuilt_status (TooLong text name) h unbuilt =
@@ -53,7 +59,7 @@ module _ (words : Words) (contents : Contents) where
 
   -- the status 2 comes of words that ask for nothing
   pub usage_of : (refusal : Refusal) → IsCause words contents refusal → status_of refusal ≡ 2 → IsFaulty words
-  usage_of (Usage help) h e = h
+  usage_of (Usage help) h e = faulty_of_help help h
   usage_of (CannotRead text name) h e = absurd (omega (arith, e))
   usage_of (TooLong text name) h e = absurd (omega (arith, e))
   usage_of (Faulty fault path) h e = absurd (omega (arith, e))

@@ -36,6 +36,7 @@ use Rattle.zero.specs.declared.refusal.Refusal.{Refusal}
 use Rattle.zero.specs.declared.refusal.Refusal.TheVariants.{Usage, CannotRead, TooLong, Faulty, Flawed, NoMemory, WriteFault, Unbuilt, UnbuiltGame}
 use Rattle.zero.specs.declared.text.Text.TheVariants.{Game, Cert}
 use Rattle.zero.proofs.CommandLemmas.{named_or_faulty, named_or_unbuilt, no_migrate, no_solve, not_both, one_check, one_name}
+use Rattle.zero.proofs.StatusLemmas.{faulty_of_help}
 use Rattle.zero.proofs.GameLemmas.{game_of_text, game_or_fault, one_game}
 
 -- ---- contents
@@ -142,7 +143,8 @@ module _ (words : Words) (contents : Contents) (bytes : Bytes)
   pub refusal_status : (refusal : Refusal) → IsCause words contents refusal
       → (status_of refusal ≡ 3 → ⊥) → (status_of refusal ≡ 12 → ⊥)
       → IsGameStatus words bytes (status_of refusal)
-  refusal_status (Usage help) h three twelve = absurd (named_or_faulty words told.name told.named h)
+  refusal_status (Usage help) h three twelve =
+      absurd (named_or_faulty words told.name told.named (faulty_of_help words contents help h))
   refusal_status (CannotRead text name) h three twelve = absurd (three refl)
   refusal_status (TooLong Game name) h three twelve =
       let same = one_name words told.name name.now told.named h.due in
@@ -239,7 +241,8 @@ module _ (words : Words) (contents : Contents) (source : SourceOf) (bytes : Byte
   pub told_refusal : (refusal : Refusal) → IsCause words contents refusal
       → (status_of refusal ≡ 3 → ⊥) → (status_of refusal ≡ 12 → ⊥)
       → IsCheckStatus source bytes (status_of refusal)
-  told_refusal (Usage help) h three twelve = absurd (named_or_faulty words told.game_name named h)
+  told_refusal (Usage help) h three twelve =
+      absurd (named_or_faulty words told.game_name named (faulty_of_help words contents help h))
   told_refusal (CannotRead text name) h three twelve = absurd (three refl)
   told_refusal (TooLong Game name) h three twelve =
       let same = one_name words told.game_name name.now named h.due in

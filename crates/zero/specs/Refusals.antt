@@ -1,5 +1,5 @@
 -- Why the program refuses, and what it says and ends with then.
-use Rattle.std.specs.Prelude.{◌≡◌, ◌≢◌, ℕ, ◌≤◌, ◌++◌, codes, String, string_bytes, Option, Some, None, Result, IfErr}
+use Rattle.std.specs.Prelude.{◌≡◌, ◌≢◌, ◌⊎◌, ℕ, ◌≤◌, ◌++◌, codes, String, string_bytes, Option, Some, None, Result, IfErr}
 use Rattle.std.specs.declared.alloc.Global.{Global}
 use Rattle.zr_io.specs.Contents.{Bytes, Contents}
 use Rattle.zr_io.specs.Faults.{Rose}
@@ -8,7 +8,7 @@ use Rattle.zero.specs.declared.refusal.Refusal.TheVariants.{Usage, CannotRead, T
 use Rattle.zero.specs.declared.text.Text.{Text}
 use Rattle.zero.specs.declared.text.Text.TheVariants.{Game, Cert}
 use Rattle.zr_words.specs.Words.{Words}
-use Rattle.zr_words.specs.Commands.{IsFaulty}
+use Rattle.zr_words.specs.Commands.{AreOfNoAction, IsMisspelt}
 use Rattle.zero.specs.Commands.{IsGameName, IsUnbuiltCommand}
 use Rattle.zero.specs.Reads.{IsDue, IsLastTake, IsLong}
 use Rattle.zero.specs.Answers.{IsFaultyGame, IsRefusedCert, IsUnbuiltGame}
@@ -49,9 +49,15 @@ line_of UnbuiltGame = message (codes "not built yet")
 abbrev pub NamesGame : Words → Type 0
 NamesGame words = (name : Bytes) × IsGameName words name
 
+-- which text of `clap` stands before the line of words that ask for nothing: one where they haven't
+-- the form of a command line, and none where they have it
+abbrev pub IsHelp : Words → Option (String Global) → Type 0
+IsHelp words None = AreOfNoAction words
+IsHelp words (Some help) = IsMisspelt words
+
 -- why the words have no answer
 abbrev pub IsCause : Words → Contents → Refusal → Type 0
-IsCause words contents (Usage help) = IsFaulty words
+IsCause words contents (Usage help) = IsHelp words help
 IsCause words contents (CannotRead text name) = IsDue words contents text name.now
 IsCause words contents (TooLong text name) = IsLong words contents text name.now
 IsCause words contents (Faulty fault path) = IsFaultyGame words contents fault (string_bytes path)
@@ -90,6 +96,11 @@ pub record Keeps {S T : Type 0} (contents_of : S → Contents) (faults_of : S �
   pub contents : contents_of after ≡ contents_of before
   pub faults : faults_of before ≤ faults_of after
   pub unread : IfErr result (λ refusal. status_of refusal ≡ 3 → Rose (faults_of before) (faults_of after))
+
+-- a refusal that comes of the words: they ask for nothing, or memory was wanting
+abbrev pub ComesOfWords : Words → Refusal → Type 0
+ComesOfWords words refusal = (refusal ≡ NoMemory)
+    ⊎ ((help : Option (String Global)) × (refusal ≡ Usage help) × IsHelp words help)
 
 -- a refusal that comes of a text that was taken
 pub record ComesOf (text : Text) (refusal : Refusal) : Type 0 where

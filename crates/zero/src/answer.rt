@@ -1,12 +1,12 @@
-ghost use Rattle.std.specs.Prelude.{◌≡◌, ◌≢◌, ◌⊎◌, IfOk, IfErr, IsErrAnd};
+ghost use Rattle.std.specs.Prelude.{◌≡◌, ◌≢◌, IfOk, IfErr, IsErrAnd};
 ghost use Rattle.zr_io.specs.Contents.{Bytes};
 ghost use Rattle.zr_words.specs.Words.{spelled};
-ghost use Rattle.zr_words.specs.Commands.{Asks, IsFaulty};
+ghost use Rattle.zr_words.specs.Commands.{Asks};
 ghost use Rattle.zr_words.specs.declared.command.Command.{Command as CommandView};
 ghost use Rattle.zero.specs.Commands.{IsGameName, IsUnbuiltCommand};
 ghost use Rattle.zero.specs.Answers.{IsAnswer};
 ghost use Rattle.zero.specs.Reads.{Lacks};
-ghost use Rattle.zero.specs.Refusals.{HasTaken, IsCause, Keeps, status_of};
+ghost use Rattle.zero.specs.Refusals.{ComesOfWords, HasTaken, IsCause, Keeps, status_of};
 ghost use Rattle.zero.specs.Told.{IsStatus};
 
 use crate::check::check;
@@ -48,8 +48,7 @@ pub fn answer_to<'w, S: Shelf>(
 /// The command of the words.
 fn command_of<'w>(alloc: Global, words: &'w [String]) -> Result<Command<'w>, Refusal<'w>>
     ensures ok { IfOk result (Asks (spelled words.now)) }
-    ensures err { IfErr result (λ refusal. (refusal ≡ Refusal.NoMemory)
-        ⊎ ((status_of refusal ≡ 2) × IsFaulty (spelled words.now))) }
+    ensures err { IfErr result (ComesOfWords (spelled words.now)) }
 {
     match read_words(alloc, words) {
         Ok(command) => Ok(command),

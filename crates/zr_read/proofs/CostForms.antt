@@ -26,9 +26,9 @@ use Rattle.zr_value.specs.Terms.{taken, is_term}
 use Rattle.zr_value.proofs.Behind.{bind_ok, guard_ok, eq_from_test, part_ok, under_ok, each_keeps, each_grows, listed_ok}
 use Rattle.zr_value.proofs.Keys.{Before, Ordered, ordered_insert, ordered_filter, length-insert, length-kept, number_opposite}
 use Rattle.zr_value.proofs.TermLaws.{whole_ok, known_below}
-use Rattle.zr_read.specs.declared.format.Aim.{Aim}
-use Rattle.zr_read.specs.declared.format.Aim.TheVariants.{Min, Max}
-use Rattle.zr_read.specs.Formats.{by_aim, cost_number_in}
+use Rattle.zr_value.specs.declared.format.Aim.{Aim}
+use Rattle.zr_value.specs.declared.format.Aim.TheVariants.{Min, Max}
+use Rattle.zr_value.specs.Formats.{by_aim, cost_number_in}
 use Rattle.zr_read.specs.Costs.{Triple, triple_order, other_player_in, other_variable_in, add_cross, cross_of, cross_in, Place, Places, places_order, in_order, OthersOf, no_others, single_variable_in, add_single, second_player_in, second_variable_in, add_product, with_singles, with_products, add_other, single_of, product_of, others_in}
 
 pub triple_order_total : IsTotalOrder triple_order

@@ -25,10 +25,10 @@ use Rattle.zr_value.specs.Terms.{taken, is_term, terms_in}
 use Rattle.zr_value.proofs.Behind.{bind_ok, guard_ok, only_ok, part_ok, under_ok, needed_ok, optional_keeps, each_keeps, each_grows, listed_ok, both_true, le_from_test}
 use Rattle.zr_value.proofs.Keys.{Ordered, ordered_insert, ordered_filter, length-insert, length-kept}
 use Rattle.zr_value.proofs.TermLaws.{known_below, terms_are_right, opposite_ascends}
-use Rattle.zr_read.specs.declared.format.GameFormat.{GameFormat}
-use Rattle.zr_read.specs.declared.format.Aim.{Aim}
-use Rattle.zr_read.specs.declared.format.Aim.TheVariants.{Min, Max}
-use Rattle.zr_read.specs.Formats.{aim_of_in, aimed, cost_number_in}
+use Rattle.zr_value.specs.declared.format.GameFormat.{GameFormat}
+use Rattle.zr_value.specs.declared.format.Aim.{Aim}
+use Rattle.zr_value.specs.declared.format.Aim.TheVariants.{Min, Max}
+use Rattle.zr_value.specs.Formats.{aim_of_in, aimed, cost_number_in}
 use Rattle.zr_read.specs.Rows.{rows_in}
 use Rattle.zr_read.specs.Costs.{Place}
 use Rattle.zr_read.specs.Followers.{FollowerHeadingOf, MembersOf, free_variable, add_free, free_in, add_follower_heading, alone, follower_headings_in, is_own, own_variable_in, given_variable_in, add_follower_cross, follower_cross_of, follower_cross_in, follower_in, add_follower, followers_in}

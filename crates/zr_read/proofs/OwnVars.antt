@@ -14,10 +14,10 @@ use Rattle.zr_value.specs.Values.{object_in, needed, optional, truth_in, whole_i
 use Rattle.zr_value.specs.Names.{new_name_in}
 use Rattle.zr_value.proofs.Behind.{bind_ok, needed_ok, optional_keeps, each_keeps, each_counts, listed_ok}
 use Rattle.zr_value.proofs.TermLaws.{whole_ok}
-use Rattle.zr_read.specs.declared.format.GameFormat.{GameFormat}
-use Rattle.zr_read.specs.declared.format.GameFormat.TheVariants.{First, Second}
-use Rattle.zr_read.specs.Formats.{since_second}
-use Rattle.zr_read.specs.Variables.{bound_in, low_in, least_up, variable_named, variable_in, add_variable, variables_in}
+use Rattle.zr_value.specs.declared.format.GameFormat.{GameFormat}
+use Rattle.zr_value.specs.declared.format.GameFormat.TheVariants.{First, Second}
+use Rattle.zr_value.specs.Formats.{since_second}
+use Rattle.zr_value.specs.Variables.{bound_in, low_in, least_up, variable_named, variable_in, add_variable, variables_in}
 use Rattle.zr_value.specs.Faults.{Read}
 use Rattle.zr_read.proofs.Naming.{IsNewName, new_name_ok, no_names, names_push, length-push}
 

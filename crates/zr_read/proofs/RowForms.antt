@@ -19,9 +19,9 @@ use Rattle.zr_value.specs.Terms.{terms_in, opposite}
 use Rattle.zr_value.proofs.Behind.{bind_ok, guard_ok, only_ok, needed_ok, optional_keeps, each_keeps, each_counts, each_grows, listed_ok, le_from_test}
 use Rattle.zr_value.proofs.Keys.{number_opposite}
 use Rattle.zr_value.proofs.TermLaws.{whole_ok, known_below, terms_are_right, opposite_ascends}
-use Rattle.zr_read.specs.declared.format.GameFormat.{GameFormat}
-use Rattle.zr_read.specs.declared.format.GameFormat.TheVariants.{First, Second}
-use Rattle.zr_read.specs.Formats.{since_second}
+use Rattle.zr_value.specs.declared.format.GameFormat.{GameFormat}
+use Rattle.zr_value.specs.declared.format.GameFormat.TheVariants.{First, Second}
+use Rattle.zr_value.specs.Formats.{since_second}
 use Rattle.zr_read.specs.Rows.{side_in, at_most, at_least, rows_of, row_in, add_rows, row_count, rows_in, is_zero, is_from_zero, pair_variable_in, pair_in, add_pair, pairs_in}
 use Rattle.zr_read.proofs.Naming.{length-push}
 use Rattle.zr_read.proofs.OwnVars.{since_keeps}

@@ -20,9 +20,9 @@ use Rattle.zr_value.specs.Names.{is_among, new_name_in, names_at}
 use Rattle.zr_value.specs.Terms.{terms_in}
 use Rattle.zr_value.proofs.Behind.{bind_ok, under_ok, needed_ok, optional_keeps, each_keeps, each_counts, listed_ok}
 use Rattle.zr_value.proofs.TermLaws.{terms_are_right}
-use Rattle.zr_read.specs.declared.format.GameFormat.{GameFormat}
-use Rattle.zr_read.specs.Formats.{aim_of_in, format_in, aimed}
-use Rattle.zr_read.specs.Variables.{variables_in}
+use Rattle.zr_value.specs.declared.format.GameFormat.{GameFormat}
+use Rattle.zr_value.specs.Formats.{aim_of_in, format_in, aimed}
+use Rattle.zr_value.specs.Variables.{variables_in}
 use Rattle.zr_read.specs.Rows.{rows_in, pairs_in}
 use Rattle.zr_read.specs.Costs.{CostsOf, Place, costs_in, cross_in, others_in}
 use Rattle.zr_read.specs.Followers.{FollowerHeadingOf, alone, follower_headings_in, followers_in}

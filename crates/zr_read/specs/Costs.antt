@@ -14,8 +14,8 @@ use Rattle.zr_value.specs.Faults.{Read, fault, ◌>>=◌}
 use Rattle.zr_value.specs.Values.{items_in, optional, part, listed, tuple, each}
 use Rattle.zr_value.specs.Names.{known_in, names_at}
 use Rattle.zr_value.specs.Terms.{taken, is_term, terms_in}
-use Rattle.zr_read.specs.declared.format.Aim.{Aim}
-use Rattle.zr_read.specs.Formats.{aimed, cost_number_in}
+use Rattle.zr_value.specs.declared.format.Aim.{Aim}
+use Rattle.zr_value.specs.Formats.{aimed, cost_number_in}
 
 -- ---- cross terms
 

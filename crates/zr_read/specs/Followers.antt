@@ -11,9 +11,9 @@ use Rattle.zr_value.specs.Faults.{Read, fault, ◌>>=◌}
 use Rattle.zr_value.specs.Values.{object_in, items_in, needed, optional, part, listed, tuple, each}
 use Rattle.zr_value.specs.Names.{new_name_in, known_in}
 use Rattle.zr_value.specs.Terms.{taken, is_term, terms_in}
-use Rattle.zr_read.specs.declared.format.GameFormat.{GameFormat}
-use Rattle.zr_read.specs.declared.format.Aim.{Aim}
-use Rattle.zr_read.specs.Formats.{aim_of_in, aimed, cost_number_in}
+use Rattle.zr_value.specs.declared.format.GameFormat.{GameFormat}
+use Rattle.zr_value.specs.declared.format.Aim.{Aim}
+use Rattle.zr_value.specs.Formats.{aim_of_in, aimed, cost_number_in}
 use Rattle.zr_read.specs.Rows.{rows_in}
 use Rattle.zr_read.specs.Costs.{Place}
 

@@ -1,5 +1,3 @@
-pub mod Formats
-pub mod Variables
 pub mod Rows
 pub mod Costs
 pub mod Followers

@@ -9,10 +9,10 @@ use Rattle.zr_source.specs.Names.{var_name}
 use Rattle.zr_value.specs.Faults.{Read, under, ◌>>=◌}
 use Rattle.zr_value.specs.Values.{object_in, needed, optional, listed, each}
 use Rattle.zr_value.specs.Names.{new_name_in, names_at}
-use Rattle.zr_read.specs.declared.format.GameFormat.{GameFormat}
-use Rattle.zr_read.specs.declared.format.Aim.{Aim}
-use Rattle.zr_read.specs.Formats.{aim_of_in, format_in}
-use Rattle.zr_read.specs.Variables.{variables_in}
+use Rattle.zr_value.specs.declared.format.GameFormat.{GameFormat}
+use Rattle.zr_value.specs.declared.format.Aim.{Aim}
+use Rattle.zr_value.specs.Formats.{aim_of_in, format_in}
+use Rattle.zr_value.specs.Variables.{variables_in}
 use Rattle.zr_read.specs.Rows.{rows_in, pairs_in}
 use Rattle.zr_read.specs.Costs.{CostsOf, costs_in}
 use Rattle.zr_read.specs.Followers.{MembersOf, alone, follower_headings_in, followers_in}

@@ -12,9 +12,9 @@ use Rattle.zr_value.specs.Faults.{Read, fault, under, ◌>>=◌}
 use Rattle.zr_value.specs.Values.{number_in, object_in, items_in, needed, optional, listed, each}
 use Rattle.zr_value.specs.Names.{known_in}
 use Rattle.zr_value.specs.Terms.{terms_in, opposite}
-use Rattle.zr_read.specs.declared.format.GameFormat.{GameFormat}
-use Rattle.zr_read.specs.declared.format.GameFormat.TheVariants.{First, Second}
-use Rattle.zr_read.specs.Formats.{since_second}
+use Rattle.zr_value.specs.declared.format.GameFormat.{GameFormat}
+use Rattle.zr_value.specs.declared.format.GameFormat.TheVariants.{First, Second}
+use Rattle.zr_value.specs.Formats.{since_second}
 
 -- ---- rows
 

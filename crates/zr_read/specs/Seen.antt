@@ -7,7 +7,7 @@ use Rattle.zr_source.specs.Sources.{FollowerOf, LeaderOf}
 use Rattle.zr_source.specs.Names.{var_name}
 use Rattle.zr_read.specs.declared.others.OtherTerms.{OtherTerms}
 use Rattle.zr_read.specs.declared.costs.Costs.{Costs}
-use Rattle.zr_read.specs.declared.variables.Vars.{Vars}
+use Rattle.zr_value.specs.declared.variables.Vars.{Vars}
 use Rattle.zr_read.specs.declared.headings.FollowerHeading.{FollowerHeading}
 use Rattle.zr_read.specs.declared.headings.Members.{Members}
 use Rattle.zr_read.specs.declared.headings.Heading.{Heading}

@@ -6,18 +6,17 @@ ghost use Rattle.zr_value.specs.Faults.{Reads};
 ghost use Rattle.zr_value.specs.Values.{optional};
 ghost use Rattle.zr_value.specs.Names.{names_at};
 ghost use Rattle.zr_value.specs.Terms.{terms_in};
-ghost use Rattle.zr_read.specs.Formats.{aimed};
+ghost use Rattle.zr_value.specs.Formats.{aimed};
 ghost use Rattle.zr_read.specs.Costs.{costs_in};
 ghost use Rattle.zr_read.specs.Seen.{costs_of};
 
 use crate::cross::read_cross_member;
-use crate::format::Aim;
 use crate::others::read_others_member;
 use serde_json::Value;
 use smallvec::SmallVec;
 use std::alloc::{AllocError, Global};
 use zr_game::{CrossTerm, Other};
-use zr_value::{GameError, Known, Names, opposite_terms, placed, read_terms};
+use zr_value::{Aim, GameError, Known, Names, opposite_terms, placed, read_terms};
 
 /// What a player has to pay.
 #[derive(Drop)]

@@ -6,14 +6,13 @@ ghost use Rattle.zr_value.specs.Names.{known_in, names_at};
 ghost use Rattle.zr_value.specs.Terms.{is_term};
 ghost use Rattle.zr_read.specs.Costs.{other_player_in, other_variable_in, add_cross, cross_of, cross_in};
 
-use crate::format::{Aim, read_cost_number_part};
 use serde_json::Value;
 use std::alloc::{AllocError, Global};
 use std::collections::BTreeMap;
 use zr_game::CrossTerm;
 use zr_value::{
-    GameError, GameFault, Known, Names, at, missing_item, numbered, placed, read_known,
-    read_known_part, read_listed, read_tuple,
+    Aim, GameError, GameFault, Known, Names, at, missing_item, numbered, placed,
+    read_cost_number_part, read_known, read_known_part, read_listed, read_tuple,
 };
 
 /// Numbers by own variable, other player and that player's variable.

@@ -8,7 +8,6 @@ ghost use Rattle.zr_read.specs.Followers.{is_own, own_variable_in, given_variabl
 ghost use Rattle.zr_read.specs.Seen.{follower_heading_of};
 
 use crate::costs::{aimed, read_cost_member};
-use crate::format::{Aim, GameFormat, read_aim_member, read_cost_number_part};
 use crate::headings::FollowerHeading;
 use crate::rows::read_rows_member;
 use serde_json::Value;
@@ -16,8 +15,8 @@ use std::alloc::{AllocError, Global};
 use std::collections::BTreeMap;
 use zr_source::Follower;
 use zr_value::{
-    GameError, GameFault, Names, at, missing_item, numbered, placed, read_known, read_listed,
-    read_tuple,
+    Aim, GameError, GameFault, GameFormat, Names, at, missing_item, numbered, placed,
+    read_aim_member, read_cost_number_part, read_known, read_listed, read_tuple,
 };
 
 /// Numbers by own variable and other variable.

@@ -4,17 +4,18 @@ ghost use Rattle.serde_json.specs.Find.{as_object};
 ghost use Rattle.zr_source.specs.Sources.{leaders_of};
 ghost use Rattle.zr_value.specs.Faults.{Reads};
 ghost use Rattle.zr_value.specs.Values.{needed};
-ghost use Rattle.zr_read.specs.Formats.{format_in};
+ghost use Rattle.zr_value.specs.Formats.{format_in};
 ghost use Rattle.zr_read.specs.Passes.{players_in, players_of_in, source_in};
 ghost use Rattle.zr_read.specs.Texts.{source_of, StandsFor, IsRefusal};
 
-use crate::format::{GameFormat, read_format};
 use crate::players::read_leaders;
 use serde_json::Value;
 use serde_json::error::Category;
 use std::alloc::Global;
 use zr_source::Source;
-use zr_value::{GameError, GameFault, at, missing, placed, read_listed, read_object};
+use zr_value::{
+    GameError, GameFault, GameFormat, at, missing, placed, read_format, read_listed, read_object,
+};
 
 /// The source of a list of 1 to `most` players.
 fn read_list(

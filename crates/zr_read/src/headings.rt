@@ -5,19 +5,18 @@ ghost use Rattle.zr_source.specs.Names.{var_name};
 ghost use Rattle.zr_value.specs.Faults.{Reads};
 ghost use Rattle.zr_value.specs.Values.{needed, optional, each};
 ghost use Rattle.zr_value.specs.Names.{is_among, new_name_in};
-ghost use Rattle.zr_read.specs.Variables.{variables_in};
+ghost use Rattle.zr_value.specs.Variables.{variables_in};
 ghost use Rattle.zr_read.specs.Followers.{add_free, free_in, add_follower_heading, alone, follower_headings_in};
 ghost use Rattle.zr_read.specs.Passes.{heading_name, variable_names, add_heading};
 ghost use Rattle.zr_read.specs.Seen.{IsNamedBy, members_of, heading_of};
 
-use crate::format::{Aim, GameFormat, read_aim_member};
-use crate::variables::{Vars, read_variables};
 use serde_json::Value;
 use std::alloc::Global;
 use zr_game::Var;
 use zr_value::{
-    GameError, GameFault, Known, Names, at, missing, numbered, placed, read_items, read_listed,
-    read_name, read_new_name, read_object,
+    Aim, GameError, GameFault, GameFormat, Known, Names, Vars, at, missing, numbered, placed,
+    read_aim_member, read_items, read_listed, read_name, read_new_name, read_object,
+    read_variables,
 };
 
 /// A follower's value, and which of its leader's variables are its own: `count` of them, from

@@ -4,7 +4,6 @@
 mod costs;
 mod cross;
 mod followers;
-mod format;
 mod game;
 mod headings;
 mod laws;
@@ -12,12 +11,10 @@ mod others;
 mod pairs;
 mod players;
 mod rows;
-mod variables;
 
-pub use format::{Aim, GameFormat};
 pub use game::{read_game, read_players};
 pub use laws::law_of_texts;
-pub use zr_value::{GameError, GameFault};
+pub use zr_value::{Aim, GameError, GameFault, GameFormat};
 
 #[cfg(test)]
 mod tests;

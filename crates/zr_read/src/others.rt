@@ -9,14 +9,13 @@ ghost use Rattle.zr_read.specs.Costs.{in_order, places_order, no_others, single_
 ghost use Rattle.zr_read.specs.Seen.{others_of};
 
 use crate::cross::{read_other_player, read_player_part, read_variable_part};
-use crate::format::{Aim, read_cost_number_part};
 use serde_json::Value;
 use std::alloc::{AllocError, Global};
 use std::collections::BTreeMap;
 use zr_game::Other;
 use zr_value::{
-    GameError, GameFault, Known, at, missing_item, numbered, placed, read_items, read_known,
-    read_listed,
+    Aim, GameError, GameFault, Known, at, missing_item, numbered, placed, read_cost_number_part,
+    read_items, read_known, read_listed,
 };
 
 /// A player and a variable of that player.

@@ -13,7 +13,6 @@ ghost use Rattle.zr_read.specs.Seen.{body_of, follower_heading_of, heading_of, l
 
 use crate::costs::{Costs, read_costs};
 use crate::followers::read_each_follower;
-use crate::format::GameFormat;
 use crate::headings::{FollowerHeading, Heading, read_each_heading};
 use crate::pairs::read_pairs_member;
 use crate::rows::read_rows_member;
@@ -22,7 +21,7 @@ use std::alloc::Global;
 use zr_base::Row;
 use zr_game::{Pair, Player, Var};
 use zr_source::{Follower, Leader};
-use zr_value::{GameError, Known, numbered, placed};
+use zr_value::{GameError, GameFormat, Known, numbered, placed};
 
 /// A player's rows, pairs and costs.
 #[derive(Drop)]

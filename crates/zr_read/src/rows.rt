@@ -7,17 +7,16 @@ ghost use Rattle.zr_game.specs.Forms.{IsNumber};
 ghost use Rattle.zr_value.specs.Faults.{Reads};
 ghost use Rattle.zr_value.specs.Values.{needed, optional, each};
 ghost use Rattle.zr_value.specs.Terms.{terms_in};
-ghost use Rattle.zr_read.specs.Formats.{since_second};
+ghost use Rattle.zr_value.specs.Formats.{since_second};
 ghost use Rattle.zr_read.specs.Rows.{side_in, at_least, rows_of, row_in, add_rows, row_count, rows_in};
 
-use crate::format::GameFormat;
 use serde_json::Value;
 use smallvec::SmallVec;
 use std::alloc::{AllocError, Global};
 use zr_base::Row;
 use zr_value::{
-    GameError, GameFault, Names, at, missing, numbered, opposite_terms, placed, read_items,
-    read_number, read_object, read_terms,
+    GameError, GameFault, GameFormat, Names, at, missing, numbered, opposite_terms, placed,
+    read_items, read_number, read_object, read_terms,
 };
 
 /// The member `terms`.

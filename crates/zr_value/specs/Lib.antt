@@ -2,3 +2,5 @@ pub mod Faults
 pub mod Values
 pub mod Names
 pub mod Terms
+pub mod Formats
+pub mod Variables

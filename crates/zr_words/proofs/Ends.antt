@@ -28,9 +28,9 @@ use Rattle.zr_game.specs.declared.kind.Kind.{Kind}
 use Rattle.zr_game.specs.declared.kind.Kind.TheVariants.{Pure, Mixed}
 use Rattle.zr_words.specs.declared.command.Options.{Options}
 use Rattle.zr_words.specs.Words.{OptionName, Said, Says, Words, kind_option, budget_option, rounds_option, order_option, option_name, default_text, texts_of}
-use Rattle.zr_words.specs.Commands.{AreOptions, HasNumber, HaveForm, IsNumber, IsValue, kind_name}
+use Rattle.zr_words.specs.Commands.{AreOptions, HasNumber, HaveForm, HaveSomeForm, IsNumber, IsValue, kind_name}
 use Rattle.zr_words.specs.Arguments.{TakesKinds, up_to, zero_fault, zero_rows}
-use Rattle.zr_words.specs.Matches.{AreRead, AreRowsOf, HaveSomeForm, IsKindRow, IsNumberRow}
+use Rattle.zr_words.specs.Matches.{AreRead, AreRowsOf, IsKindRow, IsNumberRow}
 use Rattle.zr_words.proofs.Rules.{Place, first, second, third, beyond, place_id, Key, text_key, option_key, key_id, key_rule, option_parser, by_id, rules, top, fault_is, rows_are}
 use Rattle.zr_words.proofs.Steps.{Use, free, free_or, end_of, at, option_own}
 use Rattle.zr_words.proofs.Walks.{run_said, said_run, readings}

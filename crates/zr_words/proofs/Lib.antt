@@ -6,3 +6,5 @@ pub mod Uses
 pub mod Ends
 pub mod Parsed
 pub mod Numbers
+pub mod OneSaying
+pub mod OneCommand

@@ -41,6 +41,10 @@ pub record HaveForm (words : Words) (said : List Said) (options : Options) : Typ
   pub most : length (texts_of said) ≤ 3
   pub chosen : AreOptions said options
 
+-- the words have the form of a command line
+abbrev pub HaveSomeForm : Words → Type 0
+HaveSomeForm words = (said : List Said) × (options : Options) × HaveForm words said options
+
 -- the words have no such form
 abbrev pub IsMisspelt : Words → Type 0
 IsMisspelt words = (said : List Said) (options : Options) → HaveForm words said options → ⊥
@@ -66,3 +70,29 @@ pub record Asks (words : Words) (command : Command) : Type 0 where
 -- the words ask for nothing
 abbrev pub IsFaulty : Words → Type 0
 IsFaulty words = (command : Command) → Asks words command → ⊥
+
+-- the words have the form of a command line, but ask for nothing
+abbrev pub AreOfNoAction : Words → Type 0
+AreOfNoAction words = HaveSomeForm words × IsFaulty words
+
+-- ---- how many forms and commands words have
+
+-- what words say in the form of a command line, and the options, are settled
+abbrev pub HaveOneForm : Type 0
+HaveOneForm = (words : Words) (said other : List Said) (options choice : Options)
+    → HaveForm words said options → HaveForm words other choice
+    → (said ≡ other) × (options ≡ choice)
+
+-- the commands are of one action, for the same names and under the same options
+abbrev pub IsSameCommand : Command → Command → Type 0
+IsSameCommand (Solve game options) (Solve other choice) =
+    (game.now ≡ other.now) × (options ≡ choice)
+IsSameCommand (Check game cert) (Check other second) =
+    (game.now ≡ other.now) × (cert.now ≡ second.now)
+IsSameCommand (Migrate game) (Migrate other) = game.now ≡ other.now
+IsSameCommand _ _ = ⊥
+
+-- words ask for one command at most
+abbrev pub AskForOneCommand : Type 0
+AskForOneCommand = (words : Words) (command other : Command) → Asks words command
+    → Asks words other → IsSameCommand command other

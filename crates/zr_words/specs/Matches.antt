@@ -8,7 +8,7 @@ use Rattle.zr_words.specs.declared.command.Options.{Options}
 use Rattle.zr_words.specs.declared.reading.Refused.{Refused}
 use Rattle.zr_words.specs.declared.reading.Refused.TheVariants.{Form, Action, NoMemory}
 use Rattle.zr_words.specs.Words.{OptionName, Said, Says, Text, Words, budget_option, kind_option, option_name, order_option, rounds_option, texts_of}
-use Rattle.zr_words.specs.Commands.{HaveForm, IsFaulty, IsMisspelt, IsValue}
+use Rattle.zr_words.specs.Commands.{AreOfNoAction, HaveForm, HaveSomeForm, IsMisspelt, IsValue}
 use Rattle.zr_words.specs.Arguments.{TakesKinds, zero_fault, zero_rows}
 
 -- the option's value is a number from 0 to `most`, and stands in the rows
@@ -35,10 +35,6 @@ pub record AreRowsOf (rows : List Row) (said : List Said) : Type 0 where
   pub rounds : IsNumberRow rows said rounds_option 10000
   pub order : IsNumberRow rows said order_option 1000000
 
--- the words have the form of a command line
-abbrev pub HaveSomeForm : Words → Type 0
-HaveSomeForm words = (said : List Said) × (options : Options) × HaveForm words said options
-
 -- `clap` finds no fault exactly in words that have the form of a command line, and its rows hold
 -- what those say
 abbrev pub IsReadByClap : Type 0
@@ -60,5 +56,5 @@ pub record AreRead (words : Words) (rows : List Row) : Type 0 where
 -- why words ask for nothing
 abbrev pub IsRefusal : Words → Refused → Type 0
 IsRefusal words (Form text) = IsMisspelt words
-IsRefusal words Action = HaveSomeForm words × IsFaulty words
+IsRefusal words Action = AreOfNoAction words
 IsRefusal words NoMemory = Unit {0}

@@ -3,10 +3,12 @@
 
 mod arguments;
 mod command;
+mod laws;
 mod matches;
 mod reading;
 
 pub use command::{Command, Options};
+pub use laws::{law_of_words, words_that_clap_takes};
 pub use reading::{Refused, read_words};
 
 #[cfg(test)]

@@ -4,7 +4,7 @@ ghost use Rattle.clap.specs.declared.builder.value_parser.ValueParser.{ValuePars
 ghost use Rattle.zr_words.specs.Words.{Said, spelled};
 ghost use Rattle.zr_words.specs.Commands.{Asks, IsFaulty, IsMisspelt};
 ghost use Rattle.zr_words.specs.Arguments.{TakesKinds, zero_app};
-ghost use Rattle.zr_words.specs.Matches.{AreRead, IsReadByClap, IsRefusal};
+ghost use Rattle.zr_words.specs.Matches.{AreRead, IsRefusal};
 
 use crate::arguments::zero_command;
 use crate::command::Command;
@@ -69,8 +69,3 @@ fn refusal_of(alloc: Global, error: &Error) -> Refused
         Err(_) => Refused::NoMemory,
     }
 }
-
-/// The law that the words that `clap` takes are those that have the form of a command line.
-pub fn words_that_clap_takes()
-    ensures { IsReadByClap }
-{}

@@ -22,8 +22,8 @@ use Rattle.zr_value.specs.Values.{part, listed, each}
 use Rattle.zr_value.specs.Names.{known_in, names_at}
 use Rattle.zr_value.specs.Terms.{taken, is_term}
 use Rattle.zr_value.proofs.Keys.{Before, Ordered}
-use Rattle.zr_read.specs.declared.format.Aim.TheVariants.{Min}
-use Rattle.zr_read.specs.Formats.{cost_number_in}
+use Rattle.zr_value.specs.declared.format.Aim.TheVariants.{Min}
+use Rattle.zr_value.specs.Formats.{cost_number_in}
 use Rattle.zr_read.specs.Costs.{Triple, triple_order, other_player_in, other_variable_in, add_cross, cross_of, cross_in, Place, Places, places_order, in_order, OthersOf, no_others, single_variable_in, add_single, second_player_in, second_variable_in, add_product, add_other, single_of, product_of, others_in}
 use Rattle.zr_read.proofs.CostForms.{IsKey, IsOtherPlace, IsOtherTerm, AreCross, AreOthers, triple_order_total, place_order_total}
 use Rattle.zr_write.specs.Canonical.{whole_data, list_data, name_data, names_of, player_data, variable_names, cross_data, other_data}

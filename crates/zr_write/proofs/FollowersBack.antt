@@ -21,9 +21,9 @@ use Rattle.zr_value.specs.Faults.{Read, ◌>>=◌, fault, under}
 use Rattle.zr_value.specs.Values.{needed, optional, part, items_in, listed, each}
 use Rattle.zr_value.specs.Names.{new_name_in, known_in}
 use Rattle.zr_value.specs.Terms.{taken, is_term, terms_in}
-use Rattle.zr_read.specs.declared.format.GameFormat.{GameFormat}
-use Rattle.zr_read.specs.declared.format.Aim.TheVariants.{Min}
-use Rattle.zr_read.specs.Formats.{aim_in, aim_of_in, aimed, cost_number_in}
+use Rattle.zr_value.specs.declared.format.GameFormat.{GameFormat}
+use Rattle.zr_value.specs.declared.format.Aim.TheVariants.{Min}
+use Rattle.zr_value.specs.Formats.{aim_in, aim_of_in, aimed, cost_number_in}
 use Rattle.zr_read.specs.Rows.{rows_in}
 use Rattle.zr_read.specs.Costs.{Place}
 use Rattle.zr_read.specs.Followers.{FollowerHeadingOf, MembersOf, free_variable, add_free, free_in, add_follower_heading, alone, follower_headings_in, is_own, own_variable_in, given_variable_in, add_follower_cross, follower_cross_of, follower_cross_in, follower_in, add_follower, followers_in}

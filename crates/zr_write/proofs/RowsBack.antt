@@ -24,9 +24,9 @@ use Rattle.zr_value.specs.Values.{number_in, needed, optional, part, items_in, l
 use Rattle.zr_value.specs.Names.{known_in}
 use Rattle.zr_value.specs.Terms.{taken, is_term, term_variable_in, new_variable, add_term, terms_in}
 use Rattle.zr_value.proofs.Keys.{Before, Ordered}
-use Rattle.zr_read.specs.declared.format.GameFormat.{GameFormat}
-use Rattle.zr_read.specs.declared.format.GameFormat.TheVariants.{First, Second}
-use Rattle.zr_read.specs.Formats.{since_second}
+use Rattle.zr_value.specs.declared.format.GameFormat.{GameFormat}
+use Rattle.zr_value.specs.declared.format.GameFormat.TheVariants.{First, Second}
+use Rattle.zr_value.specs.Formats.{since_second}
 use Rattle.zr_read.specs.Rows.{side_in, rows_of, row_in, add_rows, row_count, rows_in, is_from_zero, pair_variable_in, pair_in, add_pair, pairs_in}
 use Rattle.zr_write.specs.Canonical.{whole_data, list_data, name_data, term_data, terms_data, row_data, pair_data}
 use Rattle.zr_write.proofs.VariablesBack.{then_back, needed_back, optional_back, part_back, since_missing, leb_is, not_zero, number_back, known_back, items_back, listed_data_back, all_back, map-itself}

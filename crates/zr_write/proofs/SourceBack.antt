@@ -1,6 +1,7 @@
 -- The value of a source is read as the source.
 use Rattle.std.proofs.Common.{◌≡◌, ℕ, zero, suc, ◌+◌, ◌<◌, ◌≤◌, ℤ, pos, List, [], ◌∷◌, ◌++◌, length, map, take, get_or, refl, sym, ap, subst, ◌∙◌, Ok, Option, Some, None, Bool, true, false, arith, codes, decimal, append-nil}
-use Rattle.std.specs.Prelude.{nat_le, slice_get, not}
+use Rattle.std.specs.Prelude.{nat_le, slice_get, not, Vec, Result, Err, IfOk}
+use Rattle.std.specs.declared.alloc.Global.{Global}
 use Rattle.std.specs.List.{All, list_all}
 use Rattle.std.proofs.lemmas.Bool.Decides.{nat_tests, Decides-int_eq}
 use Rattle.std.proofs.lemmas.List.{get_or-map, get_or-take, get_or_past, length-map, length-take, map-append}
@@ -21,10 +22,10 @@ use Rattle.zr_value.specs.Values.{needed, optional, listed, each}
 use Rattle.zr_value.specs.Names.{new_name_in, names_at}
 use Rattle.zr_value.specs.Terms.{terms_in}
 use Rattle.zr_value.proofs.Behind.{both_true, le_from_test}
-use Rattle.zr_read.specs.declared.format.GameFormat.{GameFormat}
-use Rattle.zr_read.specs.declared.format.Aim.TheVariants.{Min}
-use Rattle.zr_read.specs.Formats.{aim_in, aim_of_in, format_in}
-use Rattle.zr_read.specs.Variables.{variables_in}
+use Rattle.zr_value.specs.declared.format.GameFormat.{GameFormat}
+use Rattle.zr_value.specs.declared.format.Aim.TheVariants.{Min}
+use Rattle.zr_value.specs.Formats.{aim_in, aim_of_in, format_in}
+use Rattle.zr_value.specs.Variables.{variables_in}
 use Rattle.zr_read.specs.Rows.{pairs_in, rows_in}
 use Rattle.zr_read.specs.Costs.{CostsOf, costs_in, cross_in, others_in}
 use Rattle.zr_read.specs.Followers.{MembersOf, alone, follower_headings_in, followers_in}
@@ -649,3 +650,12 @@ written_stands lows source bytes is zero_lows written = record {
   text = (written.utf8, written.reads);
   content = source_back lows source is zero_lows;
 }
+
+-- so does a written text
+pub result_stands : {E : Type 0} (lows : Bool) (source : SourceOf) → IsSource source
+    → (lows ≡ false → needs_lows source ≡ false) → (result : Result (Vec ℕ Global) E)
+    → IfOk result (λ bytes. IsWritten lows source bytes.items)
+    → IfOk result (λ bytes. StandsFor bytes.items source)
+result_stands lows source is zero_lows (Ok bytes) written =
+    written_stands lows source bytes.items is zero_lows written
+result_stands lows source is zero_lows (Err e) written = tt

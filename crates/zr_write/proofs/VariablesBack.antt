@@ -22,10 +22,10 @@ use Rattle.zr_value.specs.Faults.{Read, ◌>>=◌, under}
 use Rattle.zr_value.specs.Values.{within, whole_in, number_in, truth_in, needed, optional, part, items_in, listed, each}
 use Rattle.zr_value.specs.Names.{new_name_in, known_in}
 use Rattle.zr_value.proofs.Items.{listed_back}
-use Rattle.zr_read.specs.declared.format.GameFormat.{GameFormat}
-use Rattle.zr_read.specs.declared.format.GameFormat.TheVariants.{First, Second}
-use Rattle.zr_read.specs.Formats.{since_second}
-use Rattle.zr_read.specs.Variables.{bound_in, low_in, least_up, variable_named, variable_in, add_variable, variables_in}
+use Rattle.zr_value.specs.declared.format.GameFormat.{GameFormat}
+use Rattle.zr_value.specs.declared.format.GameFormat.TheVariants.{First, Second}
+use Rattle.zr_value.specs.Formats.{since_second}
+use Rattle.zr_value.specs.Variables.{bound_in, low_in, least_up, variable_named, variable_in, add_variable, variables_in}
 use Rattle.zr_read.proofs.Naming.{IsNewName}
 use Rattle.zr_write.specs.Canonical.{whole_data, list_data, low_data, parts_data, name_at, variable_data}
 

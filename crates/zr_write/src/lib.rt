@@ -13,6 +13,7 @@ ghost use Rattle.std.specs.List.{list_all};
 ghost use Rattle.serde_json.specs.View.{view};
 ghost use Rattle.zr_game.specs.Players.{var_of};
 ghost use Rattle.zr_source.specs.Sources.{leader_of, leaders_of};
+ghost use Rattle.zr_read.specs.Texts.{StandsFor, source_of};
 ghost use Rattle.zr_write.specs.Canonical.{source_data};
 ghost use Rattle.zr_write.specs.Written.{IsWritten, has_zero_lows, is_zero, needs_lows};
 
@@ -27,15 +28,17 @@ use zr_source::{Leader, Source};
 /// The canonical text of the source: that of format 1 where every lower bound is 0, else that of
 /// format 2.
 pub fn write_game(alloc: Global, source: &Source) -> Result<Vec<u8>, NoMemory>
-    ensures { IfOk result (λ bytes. IsWritten (needs_lows (leaders_of source.now.leaders.items))
-        (leaders_of source.now.leaders.items) bytes.items) }
+    ensures text { IfOk result (λ bytes. IsWritten (needs_lows (source_of source.now))
+        (source_of source.now) bytes.items) }
+    ensures stands { IfOk result (λ bytes. StandsFor bytes.items (source_of source.now)) }
 {
     text_of(alloc, &source.leaders, !have_zero_lows(&source.leaders))
 }
 
 /// The canonical text of format 2.
 pub fn migrate_game(alloc: Global, source: &Source) -> Result<Vec<u8>, NoMemory>
-    ensures { IfOk result (λ bytes. IsWritten true (leaders_of source.now.leaders.items) bytes.items) }
+    ensures text { IfOk result (λ bytes. IsWritten true (source_of source.now) bytes.items) }
+    ensures stands { IfOk result (λ bytes. StandsFor bytes.items (source_of source.now)) }
 {
     text_of(alloc, &source.leaders, true)
 }

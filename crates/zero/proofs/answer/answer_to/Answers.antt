@@ -9,6 +9,7 @@ use Rattle.zero.specs.Reads.{Lacks}
 use Rattle.zero.specs.Refusals.{status_of}
 use Rattle.zero.specs.Told.{IsStatus}
 use Rattle.zero.proofs.CauseLemmas.{err_and}
+use Rattle.zero.proofs.StatusLemmas.{faulty_of_help}
 use Rattle.zero.proofs.CommandLemmas.{named_or_faulty, named_or_unbuilt, one_name}
 use Rattle.zero.proofs.answer.answer_to.Goals as goal
 
@@ -17,7 +18,8 @@ returns-in_err-game-clause-lacks g c = λ name named lacks.
     let words = spelled c.args.words.now in
     let h : IsStatus 3 (status_of c.in_err-game.field-0.0) = ⊎_elim
     (λ e. inr (ap status_of e))
-    (λ f. absurd (named_or_faulty words name named f.1)) c.in_err-game.ensures.err in
+    (λ f. absurd (named_or_faulty words name named
+    (faulty_of_help words (g.S.Shelf.contents c.args.shelf.now) f.0 f.2))) c.in_err-game.ensures.err in
     search (rules, h)
 
 -- ---- a pure equilibrium

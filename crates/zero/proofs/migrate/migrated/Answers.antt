@@ -1,7 +1,5 @@
-use Rattle.std.proofs.Common.{rules, true, inr}
+use Rattle.std.proofs.Common.{rules, inr}
 use Rattle.zr_read.specs.Texts.{source_of}
-use Rattle.zr_write.specs.Written.{IsWritten}
-use Rattle.zr_write.proofs.SourceBack.{written_stands}
 use Rattle.zero.proofs.migrate.migrated.Goals as goal
 
 pub returns-in_err-reading-clause-err : goal.returns-in_err-reading-clause-err
@@ -10,12 +8,9 @@ returns-in_err-reading-clause-err c = λ words contents name asks read.
     search (rules, h)
 
 pub returns-in-Ok-clause-ok : goal.returns-in-Ok-clause-ok
-returns-in-Ok-clause-ok c =
-    let source = source_of c.in_ok-reading.reading.source in
-    let written : IsWritten true source c.in-Ok.text.items = search rules in record {
-      source = source;
-      game = c.in_ok-reading.ensures.ok.text;
-      canonical = written;
-      stands = written_stands true source c.in-Ok.text.items c.in_ok-reading.reading.source.sound
-          (λ e. absurd cc) written;
-    }
+returns-in-Ok-clause-ok c = record {
+  source = source_of c.in_ok-reading.reading.source;
+  game = c.in_ok-reading.ensures.ok.text;
+  canonical = c.in-Ok.ensures.text;
+  stands = c.in-Ok.ensures.stands;
+}

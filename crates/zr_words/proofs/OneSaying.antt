@@ -7,7 +7,7 @@ use Rattle.zr_words.specs.Words.{OptionName, Said, Says, Text, Words, IsPlain, o
 abbrev IsNothing : Words → List Said → Type 0
 IsNothing words said = (words ≡ []) × (said ≡ [])
 
-pub record IsText (words : Words) (said : List Said) : Type 0 where
+record IsText (words : Words) (said : List Said) : Type 0 where
   pub word : Text
   pub rest : Words
   pub then : List Said
@@ -22,7 +22,7 @@ joined_word o value = codes "--" ++ option_name o ++ codes "=" ++ value
 abbrev apart_word : OptionName → Text
 apart_word o = codes "--" ++ option_name o
 
-pub record IsJoined (words : Words) (said : List Said) : Type 0 where
+record IsJoined (words : Words) (said : List Said) : Type 0 where
   pub name : OptionName
   pub value : Text
   pub rest : Words
@@ -31,7 +31,7 @@ pub record IsJoined (words : Words) (said : List Said) : Type 0 where
   pub words_are : words ≡ joined_word name value ∷ rest
   pub said_is : said ≡ option name value ∷ then
 
-pub record IsApart (words : Words) (said : List Said) : Type 0 where
+record IsApart (words : Words) (said : List Said) : Type 0 where
   pub name : OptionName
   pub value : Text
   pub rest : Words
@@ -40,7 +40,7 @@ pub record IsApart (words : Words) (said : List Said) : Type 0 where
   pub words_are : words ≡ apart_word name ∷ value ∷ rest
   pub said_is : said ≡ option name value ∷ then
 
-pub record IsEnded (words : Words) (said : List Said) : Type 0 where
+record IsEnded (words : Words) (said : List Said) : Type 0 where
   pub rest : Words
   pub words_are : words ≡ codes "--" ∷ rest
   pub said_is : said ≡ map text rest

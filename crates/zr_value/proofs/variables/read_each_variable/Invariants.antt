@@ -3,8 +3,8 @@ use Rattle.serde_json.specs.View.{view}
 use Rattle.zr_game.specs.Players.{var_of}
 use Rattle.zr_source.specs.Names.{var_name}
 use Rattle.zr_value.proofs.Walks.{Walked}
-use Rattle.zr_read.specs.Variables.{add_variable}
-use Rattle.zr_read.proofs.variables.read_each_variable.Given as goal
+use Rattle.zr_value.specs.Variables.{add_variable}
+use Rattle.zr_value.proofs.variables.read_each_variable.Given as goal
 
 abbrev pub invariant-loop-i : goal.invariant-loop-i
 invariant-loop-i l = record {

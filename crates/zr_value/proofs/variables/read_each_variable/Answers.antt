@@ -3,8 +3,8 @@ use Rattle.serde_json.specs.View.{view}
 use Rattle.zr_game.specs.Players.{var_of}
 use Rattle.zr_value.proofs.Places.{on_placed}
 use Rattle.zr_value.proofs.Walks.{walked_more, walk_stops, walk_ends}
-use Rattle.zr_read.specs.Variables.{add_variable}
-use Rattle.zr_read.proofs.variables.read_each_variable.Goals as goal
+use Rattle.zr_value.specs.Variables.{add_variable}
+use Rattle.zr_value.proofs.variables.read_each_variable.Goals as goal
 
 pub loop-i-init : goal.loop-i-init
 loop-i-init c = record {

@@ -4,17 +4,16 @@ ghost use Rattle.zr_game.specs.Players.{var_of};
 ghost use Rattle.zr_source.specs.Names.{var_name};
 ghost use Rattle.zr_value.specs.Faults.{Reads};
 ghost use Rattle.zr_value.specs.Values.{truth_in, optional, each};
-ghost use Rattle.zr_read.specs.Formats.{since_second};
-ghost use Rattle.zr_read.specs.Variables.{bound_in, low_in, least_up, variable_named, add_variable, variables_in};
+ghost use Rattle.zr_value.specs.Formats.{since_second};
+ghost use Rattle.zr_value.specs.Variables.{bound_in, low_in, least_up, variable_named, add_variable, variables_in};
 
+use crate::fault::{GameError, numbered, placed};
 use crate::format::GameFormat;
+use crate::names::{Names, read_name_member};
+use crate::values::{read_listed, read_object, read_truth, read_whole};
 use serde_json::Value;
 use std::alloc::Global;
 use zr_game::Var;
-use zr_value::{
-    GameError, Names, numbered, placed, read_listed, read_name_member, read_object, read_truth,
-    read_whole,
-};
 
 /// The member `int`.
 fn read_int(alloc: Global, object: &Value) -> Result<bool, GameError>
@@ -124,9 +123,9 @@ fn add_variable<'v>(
 
 /// Variables, and their names by number.
 #[derive(Drop)]
-pub(crate) struct Vars<'v> {
-    pub(crate) list: Vec<Var>,
-    pub(crate) names: Names<'v>,
+pub struct Vars<'v> {
+    pub list: Vec<Var>,
+    pub names: Names<'v>,
 }
 
 /// The variables of the items of a list.
@@ -151,7 +150,7 @@ fn read_each_variable<'v>(
 }
 
 /// The variables of a list.
-pub(crate) fn read_variables<'v>(
+pub fn read_variables<'v>(
     alloc: Global,
     value: &'v Value,
     format: GameFormat,

@@ -2,12 +2,13 @@ ghost use Rattle.std.specs.Prelude.{◌≡◌};
 ghost use Rattle.serde_json.specs.View.{view};
 ghost use Rattle.zr_value.specs.Faults.{Reads};
 ghost use Rattle.zr_value.specs.Values.{part};
-ghost use Rattle.zr_read.specs.Formats.{aim_in, aim_of_in, by_aim, cost_number_in, format_in};
+ghost use Rattle.zr_value.specs.Formats.{aim_in, aim_of_in, by_aim, cost_number_in, format_in};
 ghost use Rattle.zr_game.specs.Forms.{IsNumber};
 
+use crate::fault::{GameError, GameFault, at, missing_item, numbered, placed};
+use crate::values::{read_number, read_text};
 use serde_json::Value;
 use std::alloc::Global;
-use zr_value::{GameError, GameFault, at, missing_item, numbered, placed, read_number, read_text};
 
 /// The format of a game's text: `zero-game/1` or `zero-game/2`.
 ///
@@ -27,7 +28,7 @@ pub enum Aim {
 
 impl Aim {
     /// The number of a cost that is read under this aim: a payoff is a cost with the other sign.
-    pub(crate) fn number(self, z: i64) -> i64
+    fn number(self, z: i64) -> i64
         requires { IsNumber z }
         ensures { result ≡ by_aim self z }
     {
@@ -39,7 +40,7 @@ impl Aim {
 }
 
 /// The text of `format`.
-pub(crate) fn read_format(alloc: Global, value: &Value) -> Result<GameFormat, GameError>
+pub fn read_format(alloc: Global, value: &Value) -> Result<GameFormat, GameError>
     ensures { Reads (λ f. f) result (format_in (view value.now)) }
 {
     match read_text(alloc, value)? {
@@ -61,11 +62,7 @@ fn read_aim(alloc: Global, value: &Value) -> Result<Aim, GameError>
 }
 
 /// The aim of a player or follower.
-pub(crate) fn read_aim_member(
-    alloc: Global,
-    object: &Value,
-    format: GameFormat,
-) -> Result<Aim, GameError>
+pub fn read_aim_member(alloc: Global, object: &Value, format: GameFormat) -> Result<Aim, GameError>
     ensures { Reads (λ a. a) result (aim_of_in format (view object.now)) }
 {
     match (format, object.get("aim")) {
@@ -82,7 +79,7 @@ fn read_cost_number(alloc: Global, value: &Value, aim: Aim) -> Result<i64, GameE
 }
 
 /// Part k of a list, which is a number of a cost under an aim.
-pub(crate) fn read_cost_number_part(
+pub fn read_cost_number_part(
     alloc: Global,
     list: &Value,
     k: usize,

@@ -7,8 +7,8 @@ use Rattle.zr_source.specs.Names.{var_name}
 use Rattle.zr_value.specs.Faults.{Read, ◌>>=◌}
 use Rattle.zr_value.specs.Values.{whole_in, truth_in, object_in, needed, optional, listed, each}
 use Rattle.zr_value.specs.Names.{new_name_in}
-use Rattle.zr_read.specs.declared.format.GameFormat.{GameFormat}
-use Rattle.zr_read.specs.Formats.{since_second}
+use Rattle.zr_value.specs.declared.format.GameFormat.{GameFormat}
+use Rattle.zr_value.specs.Formats.{since_second}
 
 -- a bound from `least` on
 abbrev pub bound_in : ℤ → Data → Read (Option ℤ)

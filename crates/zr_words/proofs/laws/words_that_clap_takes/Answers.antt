@@ -1,6 +1,6 @@
 use Rattle.zr_words.proofs.Ends.{form_of, read_of, taken_of}
 use Rattle.zr_words.specs.Arguments.{zero_rows}
-use Rattle.zr_words.proofs.reading.words_that_clap_takes.Goals as goal
+use Rattle.zr_words.proofs.laws.words_that_clap_takes.Goals as goal
 
 pub returns : goal.returns
 returns c = λ kinds takes words utf8. (

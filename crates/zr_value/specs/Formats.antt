@@ -6,10 +6,10 @@ use Rattle.zr_value.specs.declared.fault.GameFault.TheVariants.{Format}
 use Rattle.zr_value.specs.Faults.{Read, fault, ◌>>=◌}
 use Rattle.zr_value.specs.Values.{text_in, number_in, optional}
 use Rattle.zr_value.specs.Terms.{opposite}
-use Rattle.zr_read.specs.declared.format.GameFormat.{GameFormat}
-use Rattle.zr_read.specs.declared.format.GameFormat.TheVariants.{First, Second}
-use Rattle.zr_read.specs.declared.format.Aim.{Aim}
-use Rattle.zr_read.specs.declared.format.Aim.TheVariants.{Min, Max}
+use Rattle.zr_value.specs.declared.format.GameFormat.{GameFormat}
+use Rattle.zr_value.specs.declared.format.GameFormat.TheVariants.{First, Second}
+use Rattle.zr_value.specs.declared.format.Aim.{Aim}
+use Rattle.zr_value.specs.declared.format.Aim.TheVariants.{Min, Max}
 
 abbrev pub format_in : Data → Read GameFormat
 format_in d = do
