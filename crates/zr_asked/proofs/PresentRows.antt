@@ -19,7 +19,7 @@ use Rattle.zr_asked.proofs.PartSums.{branch_values}
 use Rattle.zr_asked.proofs.PartValues.{AreUp, clip_up, clipped, clipped_values}
 
 -- each row is a slot, and each slot that is present a row
-row_slot_of : (rows : List (Option Bound)) (r : ℕ) → r < length (present rows)
+pub row_slot_of : (rows : List (Option Bound)) (r : ℕ) → r < length (present rows)
     → (k : ℕ) × (slot_of rows k ≡ Some (bound_at (present rows) r))
 row_slot_of [] r h = absurd (omega (arith, h))
 row_slot_of (None ∷ rows) r h = let s = row_slot_of rows r h in (suc s.0, s.1)
@@ -27,7 +27,7 @@ row_slot_of (Some row ∷ rows) zero h = (0, refl)
 row_slot_of (Some row ∷ rows) (suc r) h =
     let s = row_slot_of rows r (omega (arith, h)) in (suc s.0, s.1)
 
-slot_row_of : (rows : List (Option Bound)) (k : ℕ) (row : Bound) → slot_of rows k ≡ Some row
+pub slot_row_of : (rows : List (Option Bound)) (k : ℕ) (row : Bound) → slot_of rows k ≡ Some row
     → (r : ℕ) × (r < length (present rows)) × (bound_at (present rows) r ≡ row)
 slot_row_of [] k row e = absurd cc
 slot_row_of (None ∷ rows) zero row e = absurd cc
@@ -71,7 +71,7 @@ module _ (player : PlayerOf) (leaf : LeafOf) (aim y : ℕ → ℤ) (x : PointOf)
   }
 
 -- a path keeps the bounds of the player's variables
-path_keeps : (player : PlayerOf) (leaf : LeafOf) (path : List Move) → KeepsRoot player leaf
+pub path_keeps : (player : PlayerOf) (leaf : LeafOf) (path : List Move) → KeepsRoot player leaf
     → KeepsRoot player (leaf_after leaf path)
 path_keeps player leaf [] keeps = keeps
 path_keeps player leaf (AMove.Low v at ∷ ms) keeps =
@@ -86,7 +86,7 @@ path_keeps player leaf (AMove.RowZero p ∷ ms) keeps =
     (decided_keeps player leaf keeps p ASide.RowZero)
 
 -- a lower bound of at least 0
-low_up : (o : Option ℤ) → is_from_zero o ≡ true → (low : ℤ) × (o ≡ Some low) × ((pos 0) ≤ℤ low)
+pub low_up : (o : Option ℤ) → is_from_zero o ≡ true → (low : ℤ) × (o ≡ Some low) × ((pos 0) ≤ℤ low)
 low_up None e = absurd cc
 low_up (Some low) e = (low, refl, omega (arith, ints, e))
 

@@ -1,5 +1,5 @@
 -- Points, directions and proofs that are drawn from the bases of branches' questions.
-use Rattle.std.specs.Prelude.{◌≡◌, ◌≢◌, ℕ, suc, ◌+◌, ◌<◌, ◌≤◌, ◌==◌, ℤ, pos, ◌*ℤ◌, unsigned_abs, if◌then◌else◌, Option, Some, None, List, [], ◌∷◌, ◌++◌, map, length, slice_index_or}
+use Rattle.std.specs.Prelude.{◌≡◌, ◌≢◌, ℕ, suc, ◌+◌, ◌<◌, ◌≤◌, ◌==◌, ℤ, pos, neg_ℤ, ◌*ℤ◌, unsigned_abs, if◌then◌else◌, Option, Some, None, List, [], ◌∷◌, ◌++◌, map, length, slice_index_or}
 use Rattle.std.specs.Int.{◌∣◌}
 use Rattle.zr_base.specs.Points.{PointOf, num_of}
 use Rattle.zr_base.specs.Sums.{sum_to}
@@ -77,15 +77,15 @@ abbrev pub slot_number : List ℕ → ℕ → (ℕ → ℤ) → ℕ → ℤ
 slot_number slots n e k =
     sum_to n (λ c. if slice_index_or slots c 0 == k then e c else pos 0)
 
--- up to a factor, the scale is the equation's number at the value, and the multiplier of each slot
--- the sum of those at the columns that stand for it
+-- up to a factor, the scale is the equation's number at the value, negated, and the multiplier of
+-- each slot the sum of those at the columns that stand for it
 pub record IsInProportion (slots : List ℕ) (p : Program) (e : ℕ → ℤ) (scale : ℤ)
     (mult : Multipliers) : Type 0 where
   pub by : ℤ
   pub of : ℤ
   pub by_apart : by ≢ pos 0
   pub of_apart : of ≢ pos 0
-  pub value : by *ℤ scale ≡ of *ℤ e (value_column p)
+  pub value : by *ℤ scale ≡ of *ℤ neg_ℤ (e (value_column p))
   pub slots_are : (k : ℕ)
       → by *ℤ coef_at mult k ≡ of *ℤ slot_number slots (value_column p) e k
 

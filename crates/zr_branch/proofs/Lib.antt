@@ -1,0 +1,12 @@
+pub mod Listed
+pub mod PartLaws
+pub mod Present
+pub mod Paths
+pub mod Merging
+pub mod Singles
+pub mod Listing
+pub mod Questions
+pub mod Points
+pub mod Replying
+pub mod Branching
+pub mod Drawing

@@ -1,0 +1,5 @@
+pub mod Values
+pub mod Columns
+pub mod Replies
+pub mod Merged
+pub mod Programs
