@@ -1,0 +1,15 @@
+pub mod SumsOnward
+pub mod BoxLists
+pub mod PathLaws
+pub mod GainSums
+pub mod Starts
+pub mod Forests
+pub mod Walking
+pub mod PassLaws
+pub mod Moves
+pub mod Ranged
+pub mod Exceeding
+pub mod Deviating
+pub mod Refuting
+pub mod Closing
+pub mod Descent

@@ -1,0 +1,8 @@
+use Rattle.zr_tree.specs.Right.{slot_coef}
+use Rattle.zr_tree.specs.SlotRows.{rows_at}
+use Rattle.zr_boxes.proofs.SumsOnward.{Onward}
+use Rattle.zr_boxes.proofs.refute.left_side.Given as goal
+
+abbrev pub invariant-loop-slot : goal.invariant-loop-slot
+invariant-loop-slot l =
+    Onward (λ t. (t.1, slot_coef (rows_at l.player l.leaf) t.0 l.column)) l.mult l.slot-index l.sum

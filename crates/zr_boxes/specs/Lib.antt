@@ -1,0 +1,10 @@
+pub mod Boxes
+pub mod Ranges
+pub mod Gains
+pub mod Right
+pub mod GainSteps
+pub mod Steps
+pub mod Listed
+pub mod Places
+pub mod Paths
+pub mod Visits
