@@ -2,5 +2,8 @@
 #![tactic(auto)]
 
 mod laws;
+mod open;
+mod path;
+mod place;
 
 pub use laws::{law_of_no_solutions, law_of_passing_cases};
