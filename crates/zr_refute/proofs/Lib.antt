@@ -4,3 +4,8 @@ pub mod PathMoves
 pub mod Going
 pub mod Passed
 pub mod Places
+pub mod Multiplied
+pub mod Closing
+pub mod Walking
+pub mod Moves
+pub mod Outcome

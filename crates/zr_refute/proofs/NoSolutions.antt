@@ -34,7 +34,7 @@ use Rattle.zr_system.proofs.Meeting.{LineHolds, Meets, MeetsChoices}
 use Rattle.zr_refute.specs.Refuting.{Closes, RefutesUnder, then_choice}
 
 -- the row that stands at a place of a mapped list
-row_there : (g : Line → IneqOf) (lines : List Line) (m : ℕ) (d : IneqOf) → m < length lines
+pub row_there : (g : Line → IneqOf) (lines : List Line) (m : ℕ) (d : IneqOf) → m < length lines
     → get_or (map g lines) m d ≡ g (get_or lines m no_line)
 row_there g [] m d h = absurd (omega arith)
 row_there g (line ∷ lines) zero d h = refl

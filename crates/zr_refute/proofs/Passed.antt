@@ -1,5 +1,5 @@
 -- What a search through a path has passed.
-use Rattle.std.proofs.Common.{◌≡◌, ◌≢◌, ℕ, ◌+◌, ◌<◌, arith, sym, subst, ◌∙◌, List, length, get_or, ⊎_elim}
+use Rattle.std.proofs.Common.{◌≡◌, ◌≢◌, ℕ, ◌+◌, ◌<◌, arith, subst, ◌∙◌, List, length, get_or, ⊎_elim}
 use Rattle.std.proofs.lemmas.Bool.{cases_eq}
 use Rattle.zr_base.proofs.SumSteps.{get_or_default}
 use Rattle.zr_game.specs.declared.choice.Choice.{Choice}

@@ -1,6 +1,8 @@
 -- What one move along a path of choices leaves due.
-use Rattle.std.proofs.Common.{◌≡◌, ◌≢◌, ℕ, zero, suc, ◌+◌, ◌-◌, ◌<◌, ◌≤◌, arith, refl, sym, ap, ap₂, subst, ◌∙◌, List, [], ◌∷◌, ◌++◌, length, get_or, set, take, get_or-set_same, get_or-set_other, append_assoc, All}
-use Rattle.std.proofs.Math.Seq.{take-suc, take-suc-set}
+use Rattle.std.proofs.Common.{◌≡◌, ℕ, zero, suc, ◌+◌, ◌-◌, ◌<◌, ◌≤◌, arith, refl, sym, ap, ap₂, subst, ◌∙◌, List, [], ◌∷◌, ◌++◌, length, get_or, set, take, get_or-set_same, get_or-set_other, add-one, length-set, All, inr}
+use Rattle.std.specs.Global.{Vec}
+use Rattle.std.specs.Vec.{with_item}
+use Rattle.std.proofs.Math.Seq.{take-suc-set}
 use Rattle.std.proofs.lemmas.List.{take-set-le}
 use Rattle.zr_game.specs.Players.{GameOf}
 use Rattle.zr_game.specs.declared.choice.Choice.{Choice}
@@ -9,7 +11,7 @@ use Rattle.zr_system.specs.Asked.{ChoiceExists}
 use Rattle.zr_system.specs.Regions.{LeavesOf, leaf_count}
 use Rattle.zr_system.proofs.Existence.{all_append, all_one}
 use Rattle.zr_refute.specs.Refuting.{then_choice}
-use Rattle.zr_refute.specs.Walks.{due_after, later, whiches}
+use Rattle.zr_refute.specs.Walks.{Entered, IsPathOf, due_after, later, whiches}
 
 -- choices past the first n make no difference to what is due after these
 due_above : (leaves : LeavesOf) (choices : List Choice) (k n : ℕ) (c : Choice) → n ≤ k
@@ -125,3 +127,45 @@ module _ (P : Choice → Type 0) where
       last (c ∷ cs) zero below a = a 0 d (omega arith)
       last (c ∷ cs) (suc n) below a =
           last cs n (omega (arith, below)) (λ k e b. a (suc k) e (omega (arith, b)))
+
+-- the first choice of a node is entered
+pub entered_first : (game : GameOf) (leaves : LeavesOf) (choices : Vec Choice) (depth : ℕ)
+    (c : Choice)
+    → depth < length choices.items
+    → IsPathOf game leaves (record { choices = choices; depth = depth })
+    → ChoiceExists game leaves c
+    → Entered game leaves (then_choice (take depth choices.items) c
+    ∷ later leaves (take depth choices.items) c) (record { choices = choices; depth = depth })
+    (record { choices = with_item choices depth c; depth = depth + 1 })
+entered_first game leaves choices depth c h path exists =
+    let l = length-set {A = Choice} choices.items depth c in
+    let p : take (depth + 1) (set choices.items depth c) ≡ then_choice (take depth choices.items) c
+    = rw add-one (take-suc-set choices.items depth c h) in
+    let d : due_after leaves (set choices.items depth c) (depth + 1)
+    ≡ later leaves (take depth choices.items) c ++ due_after leaves choices.items depth =
+    ap (λ (k : ℕ). due_after leaves (set choices.items depth c) k) (add-one depth)
+    ∙ due_more leaves choices.items depth c h in
+    record {
+      due = inr (ap₂ (λ (a : List Choice) (b : List (List Choice)). a ∷ b) (sym p) (sym d));
+      path = record {
+        exist = subst (λ (cs : List Choice). All (ChoiceExists game leaves) cs) (sym p)
+            (all_append (ChoiceExists game leaves) (take depth choices.items) (c ∷ []) path.exist
+            (all_one (ChoiceExists game leaves) c exists));
+        depth = omega (arith, l, h);
+      };
+      size = l;
+      depth = omega arith;
+    }
+
+-- the choice of a player's first leaf, and of the others
+pub first_which : (leaves : LeavesOf) (path : List Choice) (i : ℕ) → 0 < leaf_count leaves i
+    → whiches path i 0 (leaf_count leaves i)
+    ≡ then_choice path (Which i 0) ∷ later leaves path (Which i 0)
+first_which leaves path i h = first (leaf_count leaves i) h
+  where
+    first : (n : ℕ) → 0 < n
+        → whiches path i 0 n ≡ then_choice path (Which i 0) ∷ whiches path i 1 (n - 1)
+    first zero p = absurd (omega arith)
+    first (suc n) p =
+        let e : n ≡ suc n - 1 = omega arith in
+        ap (λ (m : ℕ). then_choice path (Which i 0) ∷ whiches path i 1 m) e

@@ -1,11 +1,11 @@
 -- Where a row stands among those that choices append.
-use Rattle.std.proofs.Common.{◌≡◌, ◌≢◌, ℕ, zero, suc, ◌+◌, ◌*◌, ◌-◌, ◌/◌, ◌%◌, ◌<◌, ◌≤◌, ◌==◌, arith, refl, sym, ap, subst, ◌∙◌, mul_comm, mul-le-mul_right, Bool, true, false, if◌then◌else◌, List, [], ◌∷◌, ◌++◌, length, slice_get, get_or, drop, drop-cons, Some, None, ⊎_elim, length-append, add-one}
+use Rattle.std.proofs.Common.{◌≡◌, ◌≢◌, ℕ, zero, suc, ◌+◌, ◌*◌, ◌-◌, ◌/◌, ◌%◌, ◌<◌, ◌≤◌, ◌==◌, arith, refl, sym, ap, subst, ◌∙◌, mul_comm, mul-le-mul_right, true, false, if◌then◌else◌, List, [], ◌∷◌, ◌++◌, length, slice_get, get_or, drop, drop-cons, Some, None, ⊎_elim, length-append, add-one}
 use Rattle.std.proofs.lemmas.Bool.{cases_eq, cases_lt}
 use Rattle.std.proofs.lemmas.Bool.Decides.{nat_tests}
 use Rattle.zr_game.specs.Players.{GameOf}
 use Rattle.zr_game.specs.declared.choice.Choice.{Choice}
 use Rattle.zr_system.specs.declared.line.Line.{Line}
-use Rattle.zr_system.specs.declared.line.Line.TheVariants.{Share, Weight}
+use Rattle.zr_system.specs.declared.line.Line.TheVariants.{Share}
 use Rattle.zr_system.specs.Lines.{choice_lines, off_lines, other_lines, path_lines}
 use Rattle.zr_system.specs.Regions.{LeavesOf, leaf_count, var_count}
 use Rattle.zr_system.specs.Unknowns.{list_to}

@@ -1,3 +1,6 @@
 pub mod Refuting
 pub mod Steps
 pub mod Walks
+pub mod Sums
+pub mod Visits
+pub mod Rooms

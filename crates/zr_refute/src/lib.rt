@@ -1,9 +1,17 @@
 //! Refutations of the system of an equilibrium, by cases of choices.
 #![tactic(auto)]
 
+mod check;
 mod laws;
 mod open;
 mod path;
 mod place;
+mod room;
+mod sum;
 
+pub use check::refuted;
 pub use laws::{law_of_no_solutions, law_of_passing_cases};
+pub use room::CaseRoom;
+pub use zr_base::NoMemory;
+pub use zr_cases::{RNode, Refutation};
+pub use zr_tree::Fault;

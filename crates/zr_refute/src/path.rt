@@ -20,14 +20,21 @@ pub(crate) struct CasePath {
     pub(crate) depth: usize,
 }
 
-/// Goes to a choice.
+/// The choices made.
+pub(crate) fn made(path: &CasePath) -> &[Choice]
+    requires { path.now.depth ≤ length path.now.choices.items }
+    ensures { result.now ≡ path_of path.now }
+{
+    &path.choices[..path.depth]
+}
+
+/// Goes to a choice, which is the first of its node.
 pub(crate) fn enter(choice: Choice, path: &mut CasePath)
     requires { path.old.depth < length path.old.choices.items }
-    ensures path { path_of path.new ≡ then_choice (path_of path.old) choice }
-    ensures due { (leaves : LeavesOf) → due_of leaves path.new
-        ≡ later leaves (path_of path.old) choice ++ due_of leaves path.old }
-    ensures size { length path.new.choices.items ≡ length path.old.choices.items }
-    ensures depth { path.new.depth ≡ suc path.old.depth }
+    ensures { (game : GameOf) (leaves : LeavesOf) → IsPathOf game leaves path.old
+        → ChoiceExists game leaves choice
+        → Entered game leaves (then_choice (path_of path.old) choice
+        ∷ later leaves (path_of path.old) choice) path.old path.new }
 {
     path.choices[path.depth] = choice;
     path.depth += 1;

@@ -1,4 +1,4 @@
-use Rattle.std.proofs.Common.{refl, inl, inr}
+use Rattle.std.proofs.Common.{inl, inr}
 use Rattle.zr_game.specs.declared.choice.Choice.TheVariants.{Off, On}
 use Rattle.zr_refute.proofs.Passed.{passed}
 use Rattle.zr_refute.proofs.open.has_side.Goals as goal

@@ -1,4 +1,3 @@
-use Rattle.std.proofs.Common.{refl}
 use Rattle.zr_game.specs.declared.choice.Choice.TheVariants.{Which}
 use Rattle.zr_refute.proofs.Passed.{passed}
 use Rattle.zr_refute.proofs.open.has_which.Goals as goal

@@ -1,4 +1,4 @@
-use Rattle.std.proofs.Common.{refl, Bool, true, false, IsTrue, ◌≡◌, not}
+use Rattle.std.proofs.Common.{refl, Bool, true, false, IsTrue, not}
 use Rattle.zr_refute.proofs.open.is_open_player.Goals as goal
 
 turned : (b : Bool) → (IsTrue b → ⊥) → IsTrue (not b)

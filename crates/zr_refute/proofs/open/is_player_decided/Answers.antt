@@ -1,4 +1,4 @@
-use Rattle.std.proofs.Common.{inl, inr, ◌⊎◌, ⊎_elim, ℕ}
+use Rattle.std.proofs.Common.{inl, inr, ⊎_elim, ℕ}
 use Rattle.std.specs.List.{Contains}
 use Rattle.zr_game.specs.declared.choice.Choice.TheVariants.{Off, On, Which}
 use Rattle.zr_refute.proofs.open.is_player_decided.Goals as goal

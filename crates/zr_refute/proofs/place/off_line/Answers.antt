@@ -1,6 +1,5 @@
-use Rattle.std.proofs.Common.{◌<◌, ◌/◌, ◌-◌, arith, sym, ◌∙◌}
+use Rattle.std.proofs.Common.{arith, sym}
 use Rattle.zr_game.specs.Games.{game_of}
-use Rattle.zr_system.specs.Regions.{var_count}
 use Rattle.zr_refute.proofs.Places.{off_past, off_share}
 use Rattle.zr_refute.proofs.place.off_line.Goals as goal
 

@@ -1,4 +1,4 @@
-use Rattle.std.proofs.Common.{◌<◌, ◌≤◌, ◌/◌, ◌+◌, ◌≡◌, arith, sym, ◌∙◌, ⊎_elim}
+use Rattle.std.proofs.Common.{◌<◌, ◌≤◌, ◌/◌, ◌+◌, arith, sym, ◌∙◌, ⊎_elim}
 use Rattle.std.proofs.lemmas.Bool.{cases_lt}
 use Rattle.zr_game.specs.Games.{game_of}
 use Rattle.zr_system.specs.Regions.{leaves_of, leaf_count}

@@ -1,6 +1,5 @@
-use Rattle.std.proofs.Common.{◌≡◌, ◌-◌, ◌+◌, ◌<◌, ◌++◌, arith, sym, ap, ◌∙◌, List, length, get_or, drop, slice_get, add-one, ℕ}
+use Rattle.std.proofs.Common.{◌-◌, ◌+◌, ◌<◌, arith, sym, ap, ◌∙◌, List, length, get_or, drop, slice_get, ℕ}
 use Rattle.zr_game.specs.Games.{game_of}
-use Rattle.zr_game.specs.declared.choice.Choice.{Choice}
 use Rattle.zr_game.specs.declared.choice.Choice.TheVariants.{On}
 use Rattle.zr_system.specs.declared.line.Line.{Line}
 use Rattle.zr_system.specs.Lines.{choice_lines, path_lines}
