@@ -1,5 +1,5 @@
 -- The slope of a player's cost as a sum over all variables of all players.
-use Rattle.std.proofs.Common.{◌≡◌, ◌≢◌, ℕ, zero, suc, ◌<◌, arith, refl, sym, ap, ap₂, subst, ◌∙◌, ℤ, pos, ◌+ℤ◌, ◌*ℤ◌, Bool, true, false, ◌==◌, ◌&&◌, if◌then◌else◌, cond, Some, List, [], ◌∷◌, length, slice_get, get_or, All, ⊎_elim}
+use Rattle.std.proofs.Common.{◌≡◌, ◌≢◌, ℕ, zero, suc, ◌<◌, arith, refl, sym, ap, ap₂, subst, ◌∙◌, ℤ, pos, ◌+ℤ◌, ◌*ℤ◌, Bool, true, false, ◌==◌, ◌&&◌, if◌then◌else◌, cond, List, [], ◌∷◌, length, get_or, ⊎_elim}
 use Rattle.std.specs.Cmp.{nat_cmp_is}
 use Rattle.std.specs.Ordering.{nat_cmp}
 use Rattle.std.specs.List.{AllPairs, filter}
@@ -7,10 +7,9 @@ use Rattle.std.proofs.lemmas.Bool.{cases_eq}
 use Rattle.std.proofs.lemmas.Bool.Decides.{nat_tests}
 use Rattle.std.proofs.lemmas.Int.{ints}
 use Rattle.std.specs.declared.cmp.Ordering.TheVariants.{Equal, Less}
-use Rattle.zr_base.specs.Fractions.{plus, sum_over, times, whole}
+use Rattle.zr_base.specs.Fractions.{sum_over, times, whole}
 use Rattle.zr_base.specs.Sums.{sum_to}
-use Rattle.zr_base.specs.Terms.{coef_at}
-use Rattle.zr_base.proofs.Dense.{sum_to-add, sum_to_same, sum_to_zero}
+use Rattle.zr_base.proofs.Dense.{sum_to-add, sum_to_same}
 use Rattle.zr_base.proofs.Members.{each_filter, each_of_all, each_weaker}
 use Rattle.zr_base.proofs.Ring.{mul-add_right}
 use Rattle.zr_base.proofs.Worth.{Each, Worth, sum_list, worth-multiple, worth-plus, worth-sum, worth-whole}
@@ -19,7 +18,7 @@ use Rattle.zr_game.specs.Means.{mean, slope}
 use Rattle.zr_game.specs.Players.{GameOf, PlayerOf}
 use Rattle.zr_game.specs.Profiles.{Profile, strategy_of}
 use Rattle.zr_game.specs.declared.player.CrossTerm.{CrossTerm}
-use Rattle.zr_system.specs.Regions.{cross_coef, cross_number, no_player, own_number, player_at, var_count}
+use Rattle.zr_system.specs.Regions.{cross_coef, cross_number, own_number, player_at, var_count}
 use Rattle.zr_system.proofs.Sums.{sum_to-all_zero, sum_to-single}
 
 -- the terms don't name the same variables

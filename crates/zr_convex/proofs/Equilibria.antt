@@ -4,7 +4,6 @@ use Rattle.std.proofs.lemmas.Int.{ints}
 use Rattle.std.proofs.Math.IntN.{*ℤ_comm}
 use Rattle.zr_base.specs.Fractions.{Fraction, IsAtMost, times}
 use Rattle.zr_base.specs.Points.{PointOf, num_of, value_of}
-use Rattle.zr_base.specs.Sums.{sum_to}
 use Rattle.zr_base.proofs.Dense.{sum_to-mul, sum_to_same}
 use Rattle.zr_base.proofs.Divisors.{mul_positive}
 use Rattle.zr_base.proofs.Members.{each_of_all, each_weaker}

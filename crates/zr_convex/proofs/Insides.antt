@@ -1,9 +1,8 @@
 -- A point lies in a leaf where it meets all slots' rows, an absent slot's being `0 <= 0`.
-use Rattle.std.proofs.Common.{◌≡◌, ℕ, zero, suc, ◌<◌, arith, refl, sym, subst, ◌∙◌, ℤ, pos, ◌*ℤ◌, ◌≤ℤ◌, ◌<ℤ◌, Bool, true, false, Option, Some, None, List, [], ◌∷◌, length, option_map}
+use Rattle.std.proofs.Common.{◌≡◌, ℕ, zero, suc, ◌<◌, arith, refl, subst, ◌∙◌, ℤ, pos, ◌*ℤ◌, ◌≤ℤ◌, ◌<ℤ◌, false, Option, Some, None, List, [], ◌∷◌, length}
 use Rattle.std.specs.Option.{is_some, option_map_or}
 use Rattle.std.proofs.lemmas.Int.{ints}
 use Rattle.zr_base.specs.Points.{PointOf, num_of}
-use Rattle.zr_base.specs.Sums.{sum_to}
 use Rattle.zr_base.proofs.Dense.{sum_to_same, sum_to_zero}
 use Rattle.zr_game.specs.Leaves.{Bound, slot_of}
 use Rattle.zr_game.specs.Players.{GameOf}

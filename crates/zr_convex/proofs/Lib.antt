@@ -9,3 +9,4 @@ pub mod Solution
 pub mod Firsts
 pub mod Equilibria
 pub mod Paths
+pub mod Refuted

@@ -9,3 +9,4 @@ pub mod Closing
 pub mod Walking
 pub mod Moves
 pub mod Outcome
+pub mod CoveredLeaves

@@ -4,3 +4,4 @@ pub mod Walks
 pub mod Sums
 pub mod Visits
 pub mod Rooms
+pub mod Covered

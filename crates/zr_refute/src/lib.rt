@@ -10,7 +10,7 @@ mod room;
 mod sum;
 
 pub use check::refuted;
-pub use laws::{law_of_no_solutions, law_of_passing_cases};
+pub use laws::{law_of_covered_points, law_of_no_solutions, law_of_passing_cases};
 pub use room::CaseRoom;
 pub use zr_base::NoMemory;
 pub use zr_cases::{RNode, Refutation};
