@@ -3,11 +3,15 @@
 
 Usage: worst_texts.py PROGRAM
 
-Each text has the length that a game text may have, 8,388,608 bytes, with spaces at its end where its
-kind allows no more, and must be answered within two seconds and 1 GiB. The column `MiB` is its length
-without these spaces. The certificate of `check` is one word, so that `check` reads
-the game whole and then refuses the certificate: its status is 6 where the text stands for a game.
-The exit status is 0 where the status of each run is the expected one and each is within the limits.
+Each text has the length that a game text may have, 8,388,608 bytes, with spaces at its end where
+its kind allows no more, and must be answered within two seconds and 1 GiB. The first column `MiB`
+is its length without these spaces. Two kinds may take more memory: `serde_json` keeps an object as
+a map that takes some 800 bytes however few members it has, so that a text of nothing but objects
+that have no meaning takes up to 1.4 GiB.
+
+The certificate of `check` is one word, so that `check` reads the game whole and then refuses the
+certificate: its status is 6 where the text stands for a game. The exit status is 0 where the status
+of each run is the expected one and each is within the limits.
 """
 import itertools
 import json
@@ -21,6 +25,7 @@ import time
 LIMIT = 8_388_608
 MOST_SECONDS = 2
 MOST_BYTES = 1 << 30
+MOST_BYTES_OF_OBJECTS = 3 << 29
 NAMES = (list(string.ascii_letters + string.digits) + ["_", "aa"])[:64]
 PLAYERS = NAMES[:16]
 
@@ -82,14 +87,10 @@ def others():
     return game([player(p, others=terms(p) if p in PLAYERS[:6] else []) for p in PLAYERS])
 
 
-def nested(depth):
-    """As many lists as there may be that nest to the depth, in a member that has no meaning."""
-    inner = depth - 2
-    one = "[" * inner + "]" * inner
-    head = '{"deep":['
-    tail = '],"format":"zero-game/1","players":[{"name":"A","vars":[{"name":"x"}]}]}'
-    count = (LIMIT - len(head) - len(tail)) // (len(one) + 1)
-    return head + ",".join([one] * count) + tail
+def nested(depth, opening, closing, inmost=""):
+    """As many values as there may be that nest to the depth, the text's object and a list round
+    them counted in."""
+    return filled(opening * (depth - 2) + inmost + closing * (depth - 2))
 
 
 def filled(item):
@@ -101,17 +102,37 @@ def filled(item):
 
 
 KINDS = [
-    ("250,000 variables", many_variables, 5),
-    ("rows and pairs of 16 full players", full_players, None),
-    ("61,440 cross terms of 8 players", cross_terms, None),
-    ("65,536 cross terms, some again", repeated_cross_terms, 5),
-    ("65,536 others of 6 players", others, None),
-    ("lists that nest 127 deep", lambda: nested(127), None),
-    ("lists that nest 128 deep", lambda: nested(128), 5),
-    ("empty lists", lambda: filled("[]"), None),
-    ("small objects", lambda: filled('{"":0}'), None),
-    ("small numbers", lambda: filled("0"), None),
+    ("250,000 variables", many_variables, 5, MOST_BYTES),
+    ("rows and pairs of 16 full players", full_players, None, MOST_BYTES),
+    ("61,440 cross terms of 8 players", cross_terms, None, MOST_BYTES),
+    ("65,536 cross terms, some again", repeated_cross_terms, 5, MOST_BYTES),
+    ("65,536 others of 6 players", others, None, MOST_BYTES),
+    ("lists that nest 127 deep", lambda: nested(127, "[", "]"), None, MOST_BYTES),
+    ("lists that nest 128 deep", lambda: nested(128, "[", "]"), 5, MOST_BYTES),
+    ("empty lists", lambda: filled("[]"), None, MOST_BYTES),
+    ("small numbers", lambda: filled("0"), None, MOST_BYTES),
+    ("objects that nest 127 deep", lambda: nested(127, '{"":', "}", "0"), None,
+     MOST_BYTES_OF_OBJECTS),
+    ("objects that nest 128 deep", lambda: nested(128, '{"":', "}", "0"), 5, MOST_BYTES_OF_OBJECTS),
+    ("small objects", lambda: filled('{"":0}'), None, MOST_BYTES_OF_OBJECTS),
 ]
+
+
+def written(path, text):
+    """Writes the text with its padding, and gives its length without. A process of its own makes
+    it, since a program's peak memory counts in what its parent held when it began."""
+    pid = os.fork()
+    if pid == 0:
+        content = text()
+        with open(path, "w") as file:
+            file.write(padded(content))
+        with open(path + ".length", "w") as file:
+            file.write(str(len(content)))
+        os._exit(0)
+    if os.waitpid(pid, 0)[1] != 0:
+        sys.exit(f"no text at {path}")
+    with open(path + ".length") as file:
+        return int(file.read())
 
 
 def measured(program, words):
@@ -131,18 +152,16 @@ def main():
         cert = os.path.join(folder, "cert")
         with open(cert, "w") as file:
             file.write("none\n")
-        for name, text, refused in KINDS:
+        for name, text, refused, most_bytes in KINDS:
             path = os.path.join(folder, "game")
-            content = text()
-            with open(path, "w") as file:
-                file.write(padded(content))
+            length = written(path, text)
             for words, accepted in (["check", path, cert], 6), (["migrate", path], 0):
                 status, seconds, memory = measured(program, words)
                 expected = accepted if refused is None else refused
-                right = status == expected and seconds <= MOST_SECONDS and memory <= MOST_BYTES
+                right = status == expected and seconds <= MOST_SECONDS and memory <= most_bytes
                 good = good and right
                 mark = "" if right else f"  (expected {expected})"
-                print(f"{name:36} {len(content) / 2**20:5.1f} {words[0]:8} {status:6} "
+                print(f"{name:36} {length / 2**20:5.1f} {words[0]:8} {status:6} "
                       f"{seconds:8.2f} {memory / 2**20:6.0f}{mark}", flush=True)
     return 0 if good else 1
 
