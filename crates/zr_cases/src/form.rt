@@ -29,26 +29,22 @@ fn are_case_forms(nodes: &[RNode]) -> bool
 fn is_case_form(node: &RNode) -> bool
     ensures { IsTrue result ↔ IsCaseForm (rnode_of node.now) }
 {
+    // What is read fits its type: any `u32` may be an index.
     match node {
-        RNode::OnOff { player, leaf } => are_indices(*player, *leaf),
-        RNode::RowSplit { player, leaf, slot } => are_indices(*player, *leaf) && is_index(*slot),
-        RNode::Which { player } => is_index(*player),
+        RNode::OnOff { player, leaf } => {
+            let _indices = (*player, *leaf);
+            true
+        }
+        RNode::RowSplit { player, leaf, slot } => {
+            let _indices = (*player, *leaf, *slot);
+            true
+        }
+        RNode::Which { player } => {
+            let _index = *player;
+            true
+        }
         RNode::Close { mult } => are_counted(mult),
     }
-}
-
-/// What is read fits its type: any `u32` may be an index.
-fn is_index(index: u32) -> bool
-    ensures { IsTrue result ↔ (index < 2 ^ 32) }
-{
-    let _index = index;
-    true
-}
-
-fn are_indices(first: u32, second: u32) -> bool
-    ensures { IsTrue result ↔ ((first < 2 ^ 32) × (second < 2 ^ 32)) }
-{
-    is_index(first) && is_index(second)
 }
 
 /// Whether the nodes are one tree, with nothing after it, where the players have so many leaves.
@@ -67,7 +63,8 @@ pub(crate) fn is_one_tree(nodes: &[RNode], leaves: &[u32]) -> bool
     due == 0
 }
 
-fn count_of_cases(node: &RNode, leaves: &[u32]) -> usize
+/// How many cases the node makes, where player `i` has `leaves[i]` leaves.
+pub fn count_of_cases(node: &RNode, leaves: &[u32]) -> usize
     ensures value { result ≡ case_count leaves.now (rnode_of node.now) }
     ensures below { result < 2 ^ 32 }
 {
@@ -175,12 +172,20 @@ fn are_box_forms(nodes: &[BNode]) -> bool
 fn is_box_form(node: &BNode) -> bool
     ensures { IsTrue result ↔ IsBoxForm (bnode_of node.now) }
 {
+    // What is read fits its type: any `u32` may be an index.
     match node {
         BNode::Split { player, var, at } => {
-            are_indices(*player, *var) && is_number_to_split_at(*at)
+            let _indices = (*player, *var);
+            is_number_to_split_at(*at)
         }
-        BNode::Empty { player, mult } => is_index(*player) && are_counted(mult),
-        BNode::Deviate { player, point } => is_index(*player) && has_number(point),
+        BNode::Empty { player, mult } => {
+            let _index = *player;
+            are_counted(mult)
+        }
+        BNode::Deviate { player, point } => {
+            let _index = *player;
+            has_number(point)
+        }
     }
 }
 

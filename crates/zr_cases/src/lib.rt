@@ -14,6 +14,7 @@ mod rnode;
 
 pub use bnode::BNode;
 pub use box_tree::BoxTree;
+pub use form::count_of_cases;
 pub use laws::law_of_cases;
 pub use refutation::Refutation;
 pub use rnode::RNode;

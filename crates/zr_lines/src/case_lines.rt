@@ -2,7 +2,6 @@
 
 ghost use Rattle.std.specs.Prelude.{◌≡◌, ◌^◌, ◌<◌, ℕ, length, map, option_map, option_copied, IfOk, true, false};
 ghost use Rattle.zr_cases.specs.Cases.{rnode_of};
-ghost use Rattle.zr_cases.specs.Forms.{case_count};
 ghost use Rattle.zr_cert.specs.Certs.{cases_of};
 ghost use Rattle.zr_form.specs.Code.{left_of};
 ghost use Rattle.zr_form.specs.Lines.{fields_of, lines_of};
@@ -15,7 +14,7 @@ use crate::loose_cases::is_case;
 use crate::multiplier_fields::counting;
 use crate::words::{CaseWord, case_word};
 use std::alloc::{AllocError, Global};
-use zr_cases::{RNode, Refutation};
+use zr_cases::{RNode, Refutation, count_of_cases};
 use zr_form::{LineFault, ReadError, next_field, next_line, small};
 
 #[tactic(auto, unfolding(crate::specs::Reader::case_rest))]
@@ -95,36 +94,6 @@ fn case_line(
     match case(alloc, line, players)? {
         Some(node) => Ok(Ok(node)),
         None => Ok(Err(LineFault::of_line(is_case(line, players)))),
-    }
-}
-
-/// How many cases the node makes, where player `i` has `leaves[i]` leaves.
-fn count_of_cases(node: &RNode, leaves: &[u32]) -> usize
-    ensures value { result ≡ case_count leaves.now (rnode_of node.now) }
-    ensures below { result < 2 ^ 32 }
-{
-    match node {
-        RNode::OnOff { player: _, leaf: _ }
-        | RNode::RowSplit {
-            player: _,
-            leaf: _,
-            slot: _,
-        } => 2,
-        RNode::Which { player } => leaf_count_of(leaves, *player),
-        RNode::Close { mult: _ } => 0,
-    }
-}
-
-/// How many leaves the player has, 0 where there is no such player.
-fn leaf_count_of(leaves: &[u32], player: u32) -> usize
-    ensures value { result ≡ case_count leaves.now (rnode_of (RNode.Which player)) }
-    ensures below { result < 2 ^ 32 }
-{
-    let i = player as usize;
-    if i < leaves.len() {
-        leaves[i] as usize
-    } else {
-        0
     }
 }
 

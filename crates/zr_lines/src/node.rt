@@ -22,9 +22,9 @@ use zr_form::{LineFault, next_field, signed, small};
 use zr_tree::Node;
 
 /// The least number that a variable is split at, and the greatest.
-const LEAST_SPLIT: i128 = -4_611_686_018_427_387_904;
+const LEAST_SPLIT: i128 = zr_tree::LEAST_SPLIT as i128;
 
-const GREATEST_SPLIT: i128 = 4_611_686_018_427_387_903;
+const GREATEST_SPLIT: i128 = zr_tree::GREATEST_SPLIT as i128;
 
 /// A number that a variable is split at.
 pub(crate) fn at(left: Option<&[u8]>) -> Option<(i64, Option<&[u8]>)>
