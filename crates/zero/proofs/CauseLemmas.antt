@@ -2,8 +2,6 @@
 use Rattle.std.proofs.Common.{inl, inr, Result, Ok, Err, IfErr, IfOk, IsErrAnd}
 use Rattle.zr_io.specs.Contents.{Bytes, Contents}
 use Rattle.zr_words.specs.Words.{Words}
-use Rattle.zero.specs.declared.text.Text.{Text}
-use Rattle.zero.specs.declared.text.Text.TheVariants.{Game, Cert}
 use Rattle.zero.specs.Answers.{IsAnswer}
 use Rattle.zero.specs.Refusals.{NamesGame}
 

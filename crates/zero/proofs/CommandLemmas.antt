@@ -1,5 +1,5 @@
 -- Words ask for one thing at most.
-use Rattle.std.proofs.Common.{◌≡◌, ℕ, length, sym, ap, ◌∙◌, arith, inl, inr, ◌⊎◌}
+use Rattle.std.proofs.Common.{◌≡◌, length, sym, ap, ◌∙◌, arith, inl, inr}
 use Rattle.zr_game.specs.declared.kind.Kind.{Kind}
 use Rattle.zr_game.specs.declared.kind.Kind.TheVariants.{Pure, Mixed}
 use Rattle.zr_io.specs.Contents.{Bytes}

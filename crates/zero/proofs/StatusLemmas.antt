@@ -1,5 +1,5 @@
 -- The status of words that ask for nothing, or for what isn't built.
-use Rattle.std.proofs.Common.{◌≡◌, ℕ, refl, inl, inr, arith, String, Option, Some, None}
+use Rattle.std.proofs.Common.{◌≡◌, refl, inl, inr, arith, String, Option, Some, None}
 use Rattle.std.specs.declared.alloc.Global.{Global}
 use Rattle.zr_io.specs.Contents.{Bytes, Contents}
 use Rattle.zr_words.specs.Words.{Words}

@@ -1,5 +1,5 @@
 -- What comes of texts that are told.
-use Rattle.std.proofs.Common.{◌≡◌, ℕ, ◌≤◌, true, length, Some, refl, sym, ap, subst, ◌∙◌, inl, inr, ⊎_elim, ◌⊎◌, arith, string_bytes}
+use Rattle.std.proofs.Common.{◌≡◌, ℕ, ◌≤◌, true, length, Some, refl, sym, ap, subst, ◌∙◌, inl, inr, arith, string_bytes}
 use Rattle.zr_game.specs.Players.{GameOf}
 use Rattle.zr_game.specs.Forms.{IsGame}
 use Rattle.zr_game.specs.declared.kind.Kind.TheVariants.{Pure}

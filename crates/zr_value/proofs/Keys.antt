@@ -1,5 +1,5 @@
 -- Numbers that are kept by keys stand in the order of these.
-use Rattle.std.proofs.Common.{◌≡◌, ◌≢◌, ℕ, ◌+◌, ◌≤◌, ℤ, pos, List, [], ◌∷◌, length, filter, map, refl, sym, ap, ◌∙◌, Ordering, Bool, true, false, arith, cond, true≢false}
+use Rattle.std.proofs.Common.{◌≡◌, ◌+◌, ◌≤◌, ℤ, pos, List, [], ◌∷◌, length, filter, refl, sym, ap, ◌∙◌, Ordering, Bool, true, false, arith, cond, true≢false}
 use Rattle.std.specs.Prelude.{not, neg_ℤ}
 use Rattle.std.proofs.lemmas.Int.{ints}
 use Rattle.std.specs.Ordering.{match_ordering, int_eq, ordering_reverse}

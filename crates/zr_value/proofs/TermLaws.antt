@@ -1,7 +1,6 @@
 -- The terms that are read ascend, are within the limit and aren't zero.
-use Rattle.std.proofs.Common.{◌≡◌, ℕ, ◌+◌, ◌<◌, ◌≤◌, ℤ, pos, List, [], ◌∷◌, length, filter, sym, ap, ◌∙◌, Ok, Option, Some, None, Bool, true, false, arith, position, bytes_eq, cond, subst, refl}
+use Rattle.std.proofs.Common.{◌≡◌, ℕ, ◌+◌, ◌<◌, ◌≤◌, ℤ, pos, List, [], ◌∷◌, length, filter, Ok, Option, Some, None, Bool, true, false, arith, position, bytes_eq, cond, subst, refl}
 use Rattle.std.specs.Ordering.{nat_cmp}
-use Rattle.std.specs.declared.cmp.Ordering.TheVariants.{Less}
 use Rattle.std.proofs.lemmas.Cmp.{ranked, nat_cmp_total}
 use Rattle.std.proofs.lemmas.Int.{ints}
 use Rattle.std.specs.BTreeMap.{insert_entry}

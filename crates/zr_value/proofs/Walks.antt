@@ -1,5 +1,5 @@
 -- A walk over the items of a list.
-use Rattle.std.proofs.Common.{◌≡◌, ℕ, ◌+◌, ◌<◌, ◌≤◌, List, [], ◌∷◌, length, drop, get_or, map, refl, sym, ◌∙◌, arith, add-one, drop-cons, decimal}
+use Rattle.std.proofs.Common.{◌≡◌, ℕ, ◌+◌, ◌<◌, ◌≤◌, List, length, drop, get_or, map, refl, sym, ◌∙◌, add-one, drop-cons, decimal}
 use Rattle.std.specs.Prelude.{Result, Ok, Err}
 use Rattle.std.proofs.lemmas.List.{drop_all}
 use Rattle.zr_value.specs.declared.fault.GameError.{GameError}

@@ -1,5 +1,5 @@
 -- Words have one form at most, and ask for one command at most.
-use Rattle.std.proofs.Common.{◌≡◌, ℕ, ℤ, List, [], ◌∷◌, codes, length, pos, refl, sym, ap, subst, ◌∙◌, arith, inl, inr, ◌⊎◌}
+use Rattle.std.proofs.Common.{◌≡◌, ℕ, List, [], ◌∷◌, codes, length, pos, refl, sym, ap, subst, ◌∙◌, arith, inl, inr}
 use Rattle.zr_game.specs.declared.kind.Kind.{Kind}
 use Rattle.zr_game.specs.declared.kind.Kind.TheVariants.{Pure, Mixed}
 use Rattle.zr_words.specs.Words.{OptionName, Said, Text, Words, budget_option, kind_option, order_option, rounds_option, texts_of}

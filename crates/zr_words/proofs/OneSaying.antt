@@ -1,5 +1,5 @@
 -- Words say one thing at most.
-use Rattle.std.proofs.Common.{◌≡◌, ℕ, Bool, IsTrue, List, [], ◌∷◌, ◌++◌, map, codes, refl, sym, ap, ap₂, subst, ◌∙◌, arith, get_or, inl, inr, ◌⊎◌}
+use Rattle.std.proofs.Common.{◌≡◌, ℕ, List, [], ◌∷◌, ◌++◌, map, codes, refl, sym, ap, ap₂, subst, ◌∙◌, arith, get_or, inl, inr, ◌⊎◌}
 use Rattle.zr_words.specs.Words.{OptionName, Said, Says, Text, Words, IsPlain, option_name, kind_option, budget_option, rounds_option, order_option, text, option, nothing, plain, joined, apart, ended}
 
 -- ---- what words say, by the first of them
