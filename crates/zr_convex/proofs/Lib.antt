@@ -10,3 +10,6 @@ pub mod Firsts
 pub mod Equilibria
 pub mod Paths
 pub mod Refuted
+pub mod Levels
+pub mod Drawing
+pub mod DrawnProfiles

@@ -1,12 +1,16 @@
-ghost use Rattle.std.specs.Prelude.{List, []};
+ghost use Rattle.std.specs.Prelude.{List, [], ℤ};
 ghost use Rattle.zr_game.specs.Named.{NamedOf};
 ghost use Rattle.zr_game.specs.Players.{GameOf};
 ghost use Rattle.zr_game.specs.Forms.{IsGame};
-ghost use Rattle.zr_game.specs.Profiles.{IsOfKind, Profile};
+ghost use Rattle.zr_game.specs.Profiles.{IsOfKind, IsProfile, Profile};
+ghost use Rattle.zr_game.specs.declared.choice.Choice.{Choice as AChoice};
 ghost use Rattle.zr_game.specs.Equilibria.{HasNoEquilibrium, IsEquilibrium};
 ghost use Rattle.zr_game.specs.declared.kind.Kind.{Kind as AKind};
-ghost use Rattle.zr_system.specs.Choices.{HasCompleteSolution};
-ghost use Rattle.zr_system.specs.Covers.{AreCovers};
+ghost use Rattle.zr_system.specs.declared.unknown.Unknown.{Unknown as AnUnknown};
+ghost use Rattle.zr_system.specs.Alike.{AreAlike};
+ghost use Rattle.zr_system.specs.Choices.{HasCompleteSolution, SolvesComplete};
+ghost use Rattle.zr_system.specs.Covers.{AreCovers, AreExact};
+ghost use Rattle.zr_system.specs.Drawn.{drawn_profile};
 ghost use Rattle.zr_system.specs.Regions.{LeavesOf};
 ghost use Rattle.zr_tree.specs.Trees.{TreeOf};
 ghost use Rattle.zr_cases.specs.Trees.{CasesOf};
@@ -34,4 +38,20 @@ pub fn law_of_none()
     ensures covers { (game : GameOf) → IsGame game → (kind : AKind) (trees : List TreeOf)
         (named : List (List NamedOf)) (t : CasesOf) → ShowsNone game kind trees named t
         → HasNoEquilibrium game kind }
+{}
+
+/// Over exact leaves, fractions that solve the system under a complete list of choices draw an
+/// equilibrium of the kind: each leaf with weight is played with this weight, at its shares over it.
+/// Each profile under which all quantities of points have the same expected values is one too.
+pub fn law_of_drawn_profiles()
+    ensures drawn { (game : GameOf) → IsGame game → (leaves : LeavesOf) → AreCovers game leaves
+        → AreExact game leaves → (kind : AKind) (path : List AChoice) (x : AnUnknown → ℤ)
+        → SolvesComplete game leaves kind path x
+        → IsOfKind kind (drawn_profile game leaves x)
+        × IsEquilibrium game (drawn_profile game leaves x) }
+    ensures alike { (game : GameOf) → IsGame game → (leaves : LeavesOf) → AreCovers game leaves
+        → AreExact game leaves → (kind : AKind) (path : List AChoice) (x : AnUnknown → ℤ)
+        → SolvesComplete game leaves kind path x
+        → (profile : Profile) → IsProfile game profile
+        → AreAlike (drawn_profile game leaves x) profile → IsEquilibrium game profile }
 {}
