@@ -19,8 +19,9 @@ use Rattle.zr_cert.specs.declared.fault.CertFault.{CertFault}
 use Rattle.zr_cert.specs.declared.fault.CertFault.TheVariants.{Bad, Wide as TooWide}
 use Rattle.zr_cert.specs.Certs.{BoundOf, BoxVerdict, CertOf, CoverVerdict, EmptyVerdict, MixtureOf, ProfileVerdict, VerdictOf}
 use Rattle.zr_check.specs.Firsts.{AllPass, FirstRefused}
-use Rattle.zr_check.specs.Parts.{IsOfLength, IsPartRight, IsWidePart, MixturePasses, MixtureRefused, PartPasses, PartRefused, PlayerPasses, PlayerRefused, StrategiesPass, StrategiesRefused, player_line}
-use Rattle.zr_check.specs.Bounds.{BoundPasses, BoundRefused, BoundsPass, BoundsRefused, CostPasses, CostRefused, IsCostMade, IsWideCost, TreePasses, TreeRefused, at_line, cost_line, no_point}
+use Rattle.zr_check.specs.Parts.{IsOfLength, IsPartRight, IsWidePart, MixturePasses, MixtureRefused, PartPasses, PartRefused, PlayerPasses, PlayerRefused, StrategiesPass, StrategiesRefused}
+use Rattle.zr_cert.specs.Places.{cost_line_number, player_line_number}
+use Rattle.zr_check.specs.Bounds.{BoundPasses, BoundRefused, BoundsPass, BoundsRefused, CostPasses, CostRefused, IsCostMade, IsWideCost, TreePasses, TreeRefused, at_line, no_point}
 use Rattle.zr_check.specs.Checks.{CertPasses, CertRefused, HeadPasses, HeadRefused, ProfilePasses, ProfileRefused, VerdictPasses, VerdictRefused}
 use Rattle.zr_check.proofs.MadeCosts.{made_or_wide, one_made}
 
@@ -82,12 +83,12 @@ module _ (kind : Kind) (player : PlayerOf) (m : MixtureOf) where
 module _ (kind : Kind) (mixtures : List MixtureOf) where
   player_apart : (i : ℕ) (player : PlayerOf) (fault : CertFault) → PlayerPasses kind mixtures i player → PlayerRefused kind mixtures i player fault → ⊥
   player_apart i player fault p r =
-      mixture_apart kind player r.0 (player_line mixtures i) fault (p r.0 r.1) r.2
+      mixture_apart kind player r.0 (player_line_number mixtures i) fault (p r.0 r.1) r.2
 
   player_one : (i : ℕ) (player : PlayerOf) (f g : CertFault) → PlayerRefused kind mixtures i player f → PlayerRefused kind mixtures i player g → f ≡ g
   player_one i player f g r s =
       let same = one mixtures i r.0 s.0 r.1 s.1 in
-      mixture_one kind player s.0 (player_line mixtures i) f g (subst (λ (m : MixtureOf). MixtureRefused kind player m (player_line mixtures i) f) same r.2) s.2
+      mixture_one kind player s.0 (player_line_number mixtures i) f g (subst (λ (m : MixtureOf). MixtureRefused kind player m (player_line_number mixtures i) f) same r.2) s.2
 
   module _ (game : GameOf) where
     pub strategies_apart : (fault : CertFault) → StrategiesPass game kind mixtures → StrategiesRefused game kind mixtures fault → ⊥
@@ -150,12 +151,12 @@ module _ (game : GameOf) (mixtures : List MixtureOf) (line i : ℕ) (player : Pl
 module _ (game : GameOf) (mixtures : List MixtureOf) (bounds : List BoundOf) where
   cost_apart : (i : ℕ) (player : PlayerOf) (fault : CertFault) → CostPasses game mixtures bounds i player → CostRefused game mixtures bounds i player fault → ⊥
   cost_apart i player fault p r =
-      bound_apart game mixtures (cost_line mixtures bounds i) i player r.0 fault (p r.0 r.1) r.2
+      bound_apart game mixtures (cost_line_number mixtures bounds i) i player r.0 fault (p r.0 r.1) r.2
 
   cost_one : (i : ℕ) (player : PlayerOf) (f g : CertFault) → CostRefused game mixtures bounds i player f → CostRefused game mixtures bounds i player g → f ≡ g
   cost_one i player f g r s =
       let same = one bounds i r.0 s.0 r.1 s.1 in
-      bound_one game mixtures (cost_line mixtures bounds i) i player s.0 f g (subst (λ (b : BoundOf). BoundRefused game mixtures (cost_line mixtures bounds i) i player b f) same r.2) s.2
+      bound_one game mixtures (cost_line_number mixtures bounds i) i player s.0 f g (subst (λ (b : BoundOf). BoundRefused game mixtures (cost_line_number mixtures bounds i) i player b f) same r.2) s.2
 
   pub bounds_apart : (fault : CertFault) → BoundsPass game mixtures bounds → BoundsRefused game mixtures bounds fault → ⊥
   bounds_apart =

@@ -15,7 +15,8 @@ use Rattle.zr_cert.specs.declared.fault.CertFault.{CertFault}
 use Rattle.zr_cert.specs.Certs.{MixtureOf}
 use Rattle.zr_cert.specs.Lines.{mixture_lines, sum_lines}
 use Rattle.zr_check.specs.Bounds.{all_means}
-use Rattle.zr_check.specs.Parts.{MixturePasses, MixtureRefused, PlayerPasses, StrategiesPass, StrategiesRefused, mean_list, player_line}
+use Rattle.zr_check.specs.Parts.{MixturePasses, MixtureRefused, PlayerPasses, StrategiesPass, StrategiesRefused, mean_list}
+use Rattle.zr_cert.specs.Places.{player_line_number}
 use Rattle.zr_check.proofs.LineSums.{lines_more}
 
 cons_means : (p : PlayerOf) (m : MixtureOf) (ps : GameOf) (ms : List MixtureOf) (own rest : List Fraction) → mean_list p m ≡ Ok own → all_means ps ms ≡ Ok rest → all_means (p ∷ ps) (m ∷ ms) ≡ Ok (own ++ rest)
@@ -40,7 +41,7 @@ means_more (p ∷ ps) (n ∷ ms) (suc i) player m is at front own e f =
 
 -- the strategies of the first i players pass, their means stand at the beginning, and the next line is that of player i
 pub record StrategiesTo (game : GameOf) (kind : Kind) (mixtures : List MixtureOf) (i line : ℕ) (means : List Fraction) : Type 0 where
-  pub at : line ≡ player_line mixtures i
+  pub at : line ≡ player_line_number mixtures i
   pub passes : (j : ℕ) (player : PlayerOf) → j < i → IsPlayer game j player → PlayerPasses kind mixtures j player
   pub made : all_means (take i game) (take i mixtures) ≡ Ok (take (place_of game i 0) means)
 

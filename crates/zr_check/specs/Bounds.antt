@@ -16,7 +16,7 @@ use Rattle.zr_mix.specs.Steps.{claim_steps, place_of, rest_steps, slope_steps, v
 use Rattle.zr_cert.specs.declared.fault.CertFault.{CertFault}
 use Rattle.zr_cert.specs.declared.fault.CertFault.TheVariants.{Bad, Wide as TooWide}
 use Rattle.zr_cert.specs.Certs.{BoundOf, MixtureOf}
-use Rattle.zr_cert.specs.Lines.{bound_lines, mixture_lines, sum_lines}
+use Rattle.zr_cert.specs.Places.{cost_line_number}
 use Rattle.zr_check.specs.Firsts.{AllPass, FirstRefused}
 use Rattle.zr_check.specs.Parts.{mean_list}
 
@@ -80,10 +80,6 @@ BoundRefused game mixtures line i player bound fault =
     ⊎ ((value : Fraction) × (left : List ℤ) × (right : ℤ) × IsCostMade game mixtures i player value left right × (value ≡ bound.cost → ⊥) × (fault ≡ Bad line))
     ⊎ ((left : List ℤ) × (right : ℤ) × IsCostMade game mixtures i player bound.cost left right × TreeRefused player (bound_with left right) bound.tree (line + 1) fault)
 
--- the cost line of player i
-abbrev pub cost_line : List MixtureOf → List BoundOf → ℕ → ℕ
-cost_line mixtures bounds i = 4 + sum_lines mixture_lines mixtures + sum_lines bound_lines (take i bounds)
-
 -- the bound of player i passes
 abbrev pub CostPasses : GameOf → List MixtureOf → List BoundOf → ℕ → PlayerOf → Type 0
 CostPasses game mixtures bounds i player =
@@ -91,7 +87,7 @@ CostPasses game mixtures bounds i player =
 
 abbrev pub CostRefused : GameOf → List MixtureOf → List BoundOf → ℕ → PlayerOf → CertFault → Type 0
 CostRefused game mixtures bounds i player fault =
-    (bound : BoundOf) × (slice_get bounds i ≡ Some bound) × BoundRefused game mixtures (cost_line mixtures bounds i) i player bound fault
+    (bound : BoundOf) × (slice_get bounds i ≡ Some bound) × BoundRefused game mixtures (cost_line_number mixtures bounds i) i player bound fault
 
 abbrev pub BoundsPass : GameOf → List MixtureOf → List BoundOf → Type 0
 BoundsPass game mixtures bounds = AllPass (CostPasses game mixtures bounds) game

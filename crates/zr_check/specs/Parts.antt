@@ -14,7 +14,7 @@ use Rattle.zr_mix.specs.Steps.{mean_steps}
 use Rattle.zr_cert.specs.declared.fault.CertFault.{CertFault}
 use Rattle.zr_cert.specs.declared.fault.CertFault.TheVariants.{Bad, Wide as TooWide}
 use Rattle.zr_cert.specs.Certs.{MixtureOf}
-use Rattle.zr_cert.specs.Lines.{mixture_lines, sum_lines}
+use Rattle.zr_cert.specs.Places.{player_line_number}
 use Rattle.zr_check.specs.Firsts.{AllPass, FirstRefused}
 
 -- the point has as many numbers as the player has variables
@@ -64,17 +64,13 @@ abbrev pub MixtureRefused : Kind → PlayerOf → MixtureOf → ℕ → CertFaul
 MixtureRefused kind player m line fault =
     FirstRefused (PartPasses kind player m) (λ k. PartRefused kind player m (line + 1 + k) k) m.parts fault
 
--- the line of player i
-abbrev pub player_line : List MixtureOf → ℕ → ℕ
-player_line mixtures i = 4 + sum_lines mixture_lines (take i mixtures)
-
 -- the strategy of player i passes
 abbrev pub PlayerPasses : Kind → List MixtureOf → ℕ → PlayerOf → Type 0
 PlayerPasses kind mixtures i player = (m : MixtureOf) → slice_get mixtures i ≡ Some m → MixturePasses kind player m
 
 abbrev pub PlayerRefused : Kind → List MixtureOf → ℕ → PlayerOf → CertFault → Type 0
 PlayerRefused kind mixtures i player fault =
-    (m : MixtureOf) × (slice_get mixtures i ≡ Some m) × MixtureRefused kind player m (player_line mixtures i) fault
+    (m : MixtureOf) × (slice_get mixtures i ≡ Some m) × MixtureRefused kind player m (player_line_number mixtures i) fault
 
 abbrev pub StrategiesPass : GameOf → Kind → List MixtureOf → Type 0
 StrategiesPass game kind mixtures = AllPass (PlayerPasses kind mixtures) game

@@ -12,18 +12,18 @@ use Rattle.zr_tree.specs.Nodes.{NodeOf}
 use Rattle.zr_text.specs.Fits.{Fits, FitsVerdict}
 use Rattle.std.specs.List.{zip}
 
-lines_of_all : {X : Type 0} (spell : ℕ → X → List Bytes) (count : X → ℕ) → ((i : ℕ) (x : X) → length (spell i x) ≡ count x) → (i : ℕ) (xs : List X) → length (spell_from spell i xs) ≡ sum_lines count xs
+pub lines_of_all : {X : Type 0} (spell : ℕ → X → List Bytes) (count : X → ℕ) → ((i : ℕ) (x : X) → length (spell i x) ≡ count x) → (i : ℕ) (xs : List X) → length (spell_from spell i xs) ≡ sum_lines count xs
 lines_of_all spell count each i [] = refl
 lines_of_all spell count each i (x ∷ xs) = omega (arith, length-append (spell i x) (spell_from spell (suc i) xs), each i x, lines_of_all spell count each (suc i) xs)
 
-lines_of_strategy : (i : ℕ) (m : MixtureOf) → length (strategy_lines i m) ≡ mixture_count m
+pub lines_of_strategy : (i : ℕ) (m : MixtureOf) → length (strategy_lines i m) ≡ mixture_count m
 lines_of_strategy i m = omega (arith, length-map m.parts part_line)
 
-lines_of_bound : (i : ℕ) (b : BoundOf) → length (bound_lines i b) ≡ bound_count b
+pub lines_of_bound : (i : ℕ) (b : BoundOf) → length (bound_lines i b) ≡ bound_count b
 lines_of_bound i b = omega (arith, length-map b.tree node_line)
 
 -- a cover's lines and those of its points and rays
-lines_of_covers : (i : ℕ) (covers : List (List NodeOf)) (named : List (List NamedOf)) → length covers ≡ length named → length (spell_from cover_lines i (zip covers named)) ≡ sum_lines tree_lines covers + sum_lines named_count named
+pub lines_of_covers : (i : ℕ) (covers : List (List NodeOf)) (named : List (List NamedOf)) → length covers ≡ length named → length (spell_from cover_lines i (zip covers named)) ≡ sum_lines tree_lines covers + sum_lines named_count named
 lines_of_covers i [] [] e = refl
 lines_of_covers i [] (n ∷ named) e = absurd (omega (arith, e))
 lines_of_covers i (c ∷ covers) [] e = absurd (omega (arith, e))

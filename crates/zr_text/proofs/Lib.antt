@@ -7,6 +7,7 @@ pub mod Looser
 pub mod Top
 pub mod Lowest
 pub mod Counts
+pub mod LineNumbers
 pub mod Kept
 pub mod Putting
 pub mod LineLooser

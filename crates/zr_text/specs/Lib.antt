@@ -1,4 +1,5 @@
 pub mod Spelling
+pub mod Numbered
 pub mod Fits
 pub mod Reader
 pub mod Faults

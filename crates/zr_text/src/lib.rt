@@ -14,7 +14,7 @@ mod writing;
 mod writing_lines;
 
 pub use fault::TextError;
-pub use laws::law_of_cert_texts;
+pub use laws::{law_of_cert_texts, law_of_line_numbers};
 pub use reading::read_cert;
 pub use writing::write_cert;
 pub use zr_base::NoMemory;
