@@ -15,7 +15,7 @@ use Rattle.zr_boxes.specs.declared.range.End.TheVariants.{Least, Greatest}
 use Rattle.zr_boxes.specs.Boxes.{BoxOf}
 use Rattle.zr_boxes.specs.Ranges.{least_product, lesser_of, range_of, shifted}
 use Rattle.zr_boxes.specs.Gains.{counts, end_terms, least_gain, slope_range, var_gain, way_range}
-use Rattle.zr_boxes.specs.GainSteps.{gain_steps, next_gain, product_steps, slope_steps, var_steps, way_steps}
+use Rattle.zr_boxes.specs.GainSteps.{gain_steps, next_gain, product_steps, slope_range_steps, var_steps, way_range_steps}
 
 -- the variables below v are added, and those from v on are left
 pub record GainOnward (player : PlayerOf) (i : ℕ) (box : BoxOf) (x : PointOf) (n v : ℕ) (gain : ℤ)
@@ -58,7 +58,7 @@ module _ (player : PlayerOf) (i : ℕ) (box : BoxOf) (x : PointOf) (n : ℕ) whe
 
 -- ---- steps that end have the exact value
 
-way_exact : (d p : ℤ) (r way : Range) → way_steps d p r ≡ Ok way → way ≡ shifted d p r
+way_exact : (d p : ℤ) (r way : Range) → way_range_steps d p r ≡ Ok way → way ≡ shifted d p r
 way_exact d p r way e =
     let a = then_ok (sum_step (neg_ℤ p) (d, r.low)) _ way e in
     let b = then_ok (sum_step (neg_ℤ p) (d, r.high)) _ way a.2 in
@@ -70,7 +70,7 @@ way_exact d p r way e =
     sym same ∙ (λ j. record { low = l j; high = h j })
 
 slope_exact : (player : PlayerOf) (box : BoxOf) (v : ℕ) (slope : Range)
-    → slope_steps player box v ≡ Ok slope → slope ≡ slope_range player box v
+    → slope_range_steps player box v ≡ Ok slope → slope ≡ slope_range player box v
 slope_exact player box v slope e =
     let c = coef_at player.cost v in
     let a = then_ok (sum_steps c (end_terms Least player box v)) _ slope e in
@@ -102,8 +102,8 @@ module _ (player : PlayerOf) (i : ℕ) (box : BoxOf) (x : PointOf) where
   var_exact : (v : ℕ) (least : ℤ) → var_steps player i box x v ≡ Ok least
       → least ≡ least_product (way_range i box x v) (slope_range player box v)
   var_exact v least e =
-      let a = then_ok (way_steps x.den (num_of x v) (range_of box i v)) _ least e in
-      let b = then_ok (slope_steps player box v) _ least a.2 in
+      let a = then_ok (way_range_steps x.den (num_of x v) (range_of box i v)) _ least e in
+      let b = then_ok (slope_range_steps player box v) _ least a.2 in
       product_exact a.0 b.0 least b.2 ∙
       (λ j. least_product (way_exact x.den (num_of x v) (range_of box i v) a.0 a.1 j)
       (slope_exact player box v b.0 b.1 j))

@@ -13,15 +13,15 @@ use Rattle.zr_boxes.specs.Ranges.{lesser_of, range_of}
 use Rattle.zr_boxes.specs.Gains.{counts, end_terms}
 
 -- `d * x - p` at both ends
-abbrev pub way_steps : ℤ → ℤ → Range → Result Range Wide
-way_steps d p r = do
+abbrev pub way_range_steps : ℤ → ℤ → Range → Result Range Wide
+way_range_steps d p r = do
   low ← sum_step (neg_ℤ p) (d, r.low)
   high ← sum_step (neg_ℤ p) (d, r.high)
   Ok (record { low = low; high = high })
 
 -- the slope's least value and its greatest, each summed from the own number on
-abbrev pub slope_steps : PlayerOf → BoxOf → ℕ → Result Range Wide
-slope_steps player box v = do
+abbrev pub slope_range_steps : PlayerOf → BoxOf → ℕ → Result Range Wide
+slope_range_steps player box v = do
   low ← sum_steps (coef_at player.cost v) (end_terms Least player box v)
   high ← sum_steps (coef_at player.cost v) (end_terms Greatest player box v)
   Ok (record { low = low; high = high })
@@ -38,8 +38,8 @@ product_steps r s = do
 -- what variable v adds
 abbrev pub var_steps : PlayerOf → ℕ → BoxOf → PointOf → ℕ → Result ℤ Wide
 var_steps player i box x v = do
-  way ← way_steps x.den (num_of x v) (range_of box i v)
-  slope ← slope_steps player box v
+  way ← way_range_steps x.den (num_of x v) (range_of box i v)
+  slope ← slope_range_steps player box v
   product_steps way slope
 
 -- the gain so far, and what v adds to it where it counts

@@ -6,7 +6,7 @@ ghost use Rattle.zr_boxes.specs.Paths.{box_of};
 
 use crate::bounded::range_of;
 use crate::range::{least_product, shifted};
-use crate::slope::{counts, slope};
+use crate::slope::{counts, slope_range};
 use zr_base::{Point, Wide, add_product};
 use zr_game::{Leaf, Player};
 
@@ -58,6 +58,6 @@ fn var_gain(player: &Player, i: u32, leaves: &[Leaf], point: &Point, v: usize) -
     ensures { result ≡ var_steps (player_of player.now) i (box_of leaves.now) point.now v }
 {
     let way = shifted(point.den(), point.num(v), range_of(leaves, i, v))?;
-    let slope = slope(player, leaves, v)?;
+    let slope = slope_range(player, leaves, v)?;
     least_product(way, slope)
 }

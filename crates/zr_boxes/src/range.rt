@@ -1,7 +1,7 @@
 ghost use Rattle.std.specs.Prelude.{◌≡◌, pos, neg_ℤ};
 ghost use Rattle.zr_base.specs.Steps.{IsNarrow, cross_of};
 ghost use Rattle.zr_base.specs.Sums.{sum_step};
-ghost use Rattle.zr_boxes.specs.GainSteps.{product_steps, way_steps};
+ghost use Rattle.zr_boxes.specs.GainSteps.{product_steps, way_range_steps};
 ghost use Rattle.zr_boxes.specs.Ranges.{end_at as end_in, lesser_of};
 
 use zr_base::{Wide, add_product, cross};
@@ -33,7 +33,7 @@ pub(crate) fn end_at(end: End, number: i64, range: Range) -> i128
 /// Where x runs over the range, the ends of `den * x - num`.
 pub(crate) fn shifted(den: i128, num: i128, range: Range) -> Result<Range, Wide>
     requires { IsNarrow num }
-    ensures { result ≡ way_steps den num range }
+    ensures { result ≡ way_range_steps den num range }
 {
     let low = way(den, num, range.low)?;
     let high = way(den, num, range.high)?;

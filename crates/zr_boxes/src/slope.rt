@@ -5,7 +5,7 @@ ghost use Rattle.zr_base.specs.Sums.{sum_step, sum_steps};
 ghost use Rattle.zr_base.specs.Terms.{coef_at};
 ghost use Rattle.zr_game.specs.Players.{player_of};
 ghost use Rattle.zr_boxes.specs.Gains.{counts as counts_in, end_terms};
-ghost use Rattle.zr_boxes.specs.GainSteps.{slope_steps};
+ghost use Rattle.zr_boxes.specs.GainSteps.{slope_range_steps};
 ghost use Rattle.zr_boxes.specs.Paths.{box_of};
 ghost use Rattle.zr_boxes.specs.Ranges.{end_at as end_in, range_of as range_in};
 
@@ -47,8 +47,8 @@ fn is_in_cross(cross: &[CrossTerm], v: usize) -> bool
 }
 
 /// The least and the greatest slope of the cost along variable `v` in the box.
-pub(crate) fn slope(player: &Player, leaves: &[Leaf], v: usize) -> Result<Range, Wide>
-    ensures { result ≡ slope_steps (player_of player.now) (box_of leaves.now) v }
+pub(crate) fn slope_range(player: &Player, leaves: &[Leaf], v: usize) -> Result<Range, Wide>
+    ensures { result ≡ slope_range_steps (player_of player.now) (box_of leaves.now) v }
 {
     let low = slope_end(End::Least, player, leaves, v)?;
     let high = slope_end(End::Greatest, player, leaves, v)?;

@@ -14,6 +14,7 @@ pub mod MixtureWalks
 pub mod LineSums
 pub mod StrategyWalks
 pub mod BoundSteps
+pub mod BoxLines
 pub mod BoundWalks
 pub mod Verdicts
 pub mod Answers

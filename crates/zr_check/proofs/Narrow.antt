@@ -18,6 +18,8 @@ use Rattle.zr_tree.specs.Steps.{IsWideForRow}
 use Rattle.zr_tree.specs.Trees.{TreeOf, preorder}
 use Rattle.zr_tree.proofs.Descent.{right_if_refuted}
 use Rattle.zr_tree.proofs.PassLaws.{passes_if}
+use Rattle.zr_boxes.specs.Boxes.{root_box}
+use Rattle.zr_boxes.proofs.PassLaws.{passes_if as boxes_pass_if}
 use Rattle.zr_cert.specs.Certs.{BoundOf, BoxVerdict, CertOf, CoverVerdict, EmptyVerdict, MixtureOf, ProfileVerdict, VerdictOf, profile_with}
 use Rattle.zr_cert.specs.Forms.{IsBoundForm, IsCert, IsMixtureForm, IsVerdictForm}
 use Rattle.zr_check.specs.Right.{AreRightStrategies, IsRightBound, IsRightCert, IsRightHead, IsRightProfile, IsRightVerdict}
@@ -117,7 +119,9 @@ module _ (game : GameOf) (form : IsGame game) (kind : Kind) where
   verdict_passes (ProfileVerdict mixtures bounds) v right narrow =
       (strategies_pass game kind mixtures right.strategies (λ w. narrow (inl w)), bounds_pass game form kind mixtures bounds v.0 v.1 v.3 right narrow)
   verdict_passes (CoverVerdict covers named proof) v right narrow = right
-  verdict_passes (BoxVerdict nodes) v right narrow = right
+  verdict_passes (BoxVerdict nodes) v right narrow =
+      let b = right.1 in
+      (right.0, (b.tree, b.listed, boxes_pass_if game b.tree (root_box game) b.right (λ w. narrow (b.tree, b.listed, w))))
   verdict_passes (EmptyVerdict i nodes) v right narrow =
       let player = right.0 in
       let proof = right.2 in

@@ -17,6 +17,10 @@ use Rattle.zr_tree.specs.Right.{ProvesRow}
 use Rattle.zr_tree.specs.Steps.{HasWideProof, IsWideForRow}
 use Rattle.zr_tree.proofs.Forests.{same_tree}
 use Rattle.zr_tree.proofs.PassLaws.{right_if}
+use Rattle.zr_boxes.specs.Boxes.{root_box}
+use Rattle.zr_boxes.specs.Steps.{HasWideBox}
+use Rattle.zr_boxes.proofs.Forests.{same_tree as same_boxes}
+use Rattle.zr_boxes.proofs.PassLaws.{right_if as boxes_right}
 use Rattle.zr_cert.specs.Certs.{BoundOf, BoxVerdict, CertOf, CoverVerdict, EmptyVerdict, MixtureOf, ProfileVerdict, VerdictOf, profile_with}
 use Rattle.zr_cert.specs.Forms.{IsCert, IsEmptyNode, IsMixtureForm, IsTreeWith, IsVerdictForm}
 use Rattle.zr_check.specs.Right.{AreRightStrategies, IsRightBound, IsRightCert, IsRightProfile, IsRightVerdict, IsEmptyTree, IsRowTree}
@@ -143,14 +147,16 @@ module _ (game : GameOf) (form : IsGame game) (kind : Kind) where
   verdict_right (ProfileVerdict mixtures bounds) v p =
       right_profile game form kind mixtures bounds v.0 v.1 v.2 p.0 p.1
   verdict_right (CoverVerdict covers named proof) v p = p
-  verdict_right (BoxVerdict nodes) v p = p
+  verdict_right (BoxVerdict nodes) v p =
+      (p.0, record { tree = p.1.0; listed = p.1.1; right = (boxes_right game p.1.0 (root_box game) p.1.2).0 })
   verdict_right (EmptyVerdict i nodes) v p = (p.0, p.1, empty_if_passes p.0 nodes v.1 p.2)
 
   verdict_narrow : (verdict : VerdictOf) → IsVerdictForm (length game) verdict → VerdictPasses game kind verdict → VerdictIsWide game verdict → ⊥
   verdict_narrow (ProfileVerdict mixtures bounds) v p w =
       narrow_profile game form kind mixtures bounds v.0 v.1 v.2 p.0 p.1 w
   verdict_narrow (CoverVerdict covers named proof) v p w = p
-  verdict_narrow (BoxVerdict nodes) v p w = p
+  verdict_narrow (BoxVerdict nodes) v p w =
+      (boxes_right game p.1.0 (root_box game) p.1.2).1 (subst (HasWideBox game (root_box game)) (same_boxes w.0 p.1.0 (w.1 ∙ sym p.1.1)) w.2)
   verdict_narrow (EmptyVerdict i nodes) v p w =
       let same = one game i w.0 p.0 w.1 p.1 in
       narrow_if_passes p.0 (no_point p.0) nodes p.2 (subst (λ (player : PlayerOf). IsWideTree player (no_point player) nodes) same w.2)

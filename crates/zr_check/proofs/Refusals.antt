@@ -8,6 +8,7 @@ use Rattle.zr_game.specs.Forms.{IsPlayer}
 use Rattle.zr_game.specs.Leaves.{Bound, bound_with, root_leaf}
 use Rattle.zr_game.specs.Profiles.{Part}
 use Rattle.zr_game.specs.declared.kind.Kind.{Kind}
+use Rattle.zr_game.specs.declared.kind.Kind.TheVariants.{Pure}
 use Rattle.zr_game.proofs.Items.{one}
 use Rattle.zr_tree.specs.Nodes.{NodeOf}
 use Rattle.zr_tree.specs.Right.{ProvesRow}
@@ -15,6 +16,13 @@ use Rattle.zr_tree.specs.Steps.{IsRefusedAt, IsWideForRow, Passes as TreeIsPasse
 use Rattle.zr_tree.specs.Trees.{TreeOf}
 use Rattle.zr_tree.proofs.Forests.{same_tree}
 use Rattle.zr_tree.proofs.PassLaws.{exclusive, one_fault}
+use Rattle.zr_cases.specs.Cases.{BNodeOf}
+use Rattle.zr_cases.specs.Trees.{BoxTreeOf}
+use Rattle.zr_boxes.specs.Boxes.{root_box}
+use Rattle.zr_boxes.specs.Steps.{BoxPasses, IsRefusedBox}
+use Rattle.zr_boxes.proofs.Forests.{same_tree as same_boxes}
+use Rattle.zr_boxes.proofs.PassLaws.{exclusive as box_exclusive, one_fault as one_box_fault}
+use Rattle.zr_check.specs.Boxes.{BoxesPass, BoxesRefused}
 use Rattle.zr_cert.specs.declared.fault.CertFault.{CertFault}
 use Rattle.zr_cert.specs.declared.fault.CertFault.TheVariants.{Bad, Wide as TooWide}
 use Rattle.zr_cert.specs.Certs.{BoundOf, BoxVerdict, CertOf, CoverVerdict, EmptyVerdict, MixtureOf, ProfileVerdict, VerdictOf}
@@ -111,6 +119,18 @@ module _ (player : PlayerOf) (row : Bound) (nodes : List NodeOf) (line : ℕ) wh
       let first = one_fault (ProvesRow player row) (IsWideForRow player row) player s.0 0 (root_leaf player) r.1 s.1 (subst (λ (t : TreeOf). IsRefusedAt player row 0 (root_leaf player) t r.1) same r.3) s.3 in
       r.4 ∙ ap (at_line line) first ∙ sym s.4
 
+-- a box tree's lines
+module _ (game : GameOf) (nodes : List BNodeOf) (line : ℕ) where
+  boxes_apart : (fault : CertFault) → BoxesPass game nodes → BoxesRefused game nodes line fault → ⊥
+  boxes_apart fault p r =
+      box_exclusive game r.0 0 (root_box game) r.1 (subst (BoxPasses game (root_box game)) (same_boxes p.0 r.0 (p.1 ∙ sym r.2)) p.2) r.3
+
+  boxes_one : (f g : CertFault) → BoxesRefused game nodes line f → BoxesRefused game nodes line g → f ≡ g
+  boxes_one f g r s =
+      let same = same_boxes r.0 s.0 (r.2 ∙ sym s.2) in
+      let first = one_box_fault game s.0 0 (root_box game) r.1 s.1 (subst (λ (t : BoxTreeOf). IsRefusedBox game 0 (root_box game) t r.1) same r.3) s.3 in
+      r.4 ∙ ap (at_line line) first ∙ sym s.4
+
 -- the lines of a bound
 module _ (game : GameOf) (mixtures : List MixtureOf) (line i : ℕ) (player : PlayerOf) (bound : BoundOf) where
   abbrev WideCost : CertFault → Type 0
@@ -172,7 +192,7 @@ module _ (game : GameOf) (kind : Kind) where
   verdict_apart (ProfileVerdict mixtures bounds) fault p r =
       ⊎_elim (λ (a : StrategiesRefused game kind mixtures fault). strategies_apart kind mixtures game fault p.0 a) (λ (a : StrategiesPass game kind mixtures × BoundsRefused game mixtures bounds fault). bounds_apart game mixtures bounds fault p.1 a.1) r
   verdict_apart (CoverVerdict covers named proof) fault p r = p
-  verdict_apart (BoxVerdict nodes) fault p r = p
+  verdict_apart (BoxVerdict nodes) fault p r = ⊎_elim (λ a. a.0 p.0) (λ a. boxes_apart game nodes 4 fault p.1 a.1) r
   verdict_apart (EmptyVerdict i nodes) fault p r =
       ⊎_elim (λ a. a.0 (slice_get_within game i p.0 p.1)) (λ a. tree_apart p.0 (no_point p.0) nodes 4 fault p.2 (subst (λ (player : PlayerOf). TreeRefused player (no_point player) nodes 4 fault) (one game i a.0 p.0 a.1 p.1) a.2)) r
 
@@ -180,7 +200,7 @@ module _ (game : GameOf) (kind : Kind) where
   verdict_one (ProfileVerdict mixtures bounds) f g =
       either_one (StrategiesRefused game kind mixtures) (λ x. StrategiesPass game kind mixtures × BoundsRefused game mixtures bounds x) (λ x y a b. strategies_apart kind mixtures game x b.0 a) f g (strategies_one kind mixtures game f g) (λ a b. bounds_one game mixtures bounds f g a.1 b.1)
   verdict_one (CoverVerdict covers named proof) f g = λ r s. r ∙ sym s
-  verdict_one (BoxVerdict nodes) f g = λ r s. r ∙ sym s
+  verdict_one (BoxVerdict nodes) f g = in_turn (kind ≡ Pure) (BoxesRefused game nodes 4) (Bad 3) f g (boxes_one game nodes 4 f g)
   verdict_one (EmptyVerdict i nodes) f g =
       either_one (λ x. (i < length game → ⊥) × (x ≡ Bad 3)) (λ x. (player : PlayerOf) × IsPlayer game i player × TreeRefused player (no_point player) nodes 4 x) (λ x y a b. a.0 (slice_get_within game i b.0 b.1)) f g (λ a b. a.1 ∙ sym b.1) (λ a b. tree_one b.0 (no_point b.0) nodes 4 f g (subst (λ (player : PlayerOf). TreeRefused player (no_point player) nodes 4 f) (one game i a.0 b.0 a.1 b.1) a.2) b.2)
 

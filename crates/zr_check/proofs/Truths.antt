@@ -1,5 +1,5 @@
 -- What a right certificate claims is true.
-use Rattle.std.proofs.Common.{ℕ, arith, List, [], ◌∷◌}
+use Rattle.std.proofs.Common.{ℕ, arith, subst, sym, List, [], ◌∷◌}
 use Rattle.std.proofs.lemmas.List.Elements.{All-head}
 use Rattle.zr_base.specs.Points.{PointOf}
 use Rattle.zr_game.specs.declared.kind.Kind.{Kind}
@@ -15,6 +15,7 @@ use Rattle.zr_tree.specs.Trees.{TreeOf}
 use Rattle.zr_tree.proofs.Descent.{holds_at_root, none_at_root}
 use Rattle.zr_mix.specs.Checks.{HasClaims}
 use Rattle.zr_mix.proofs.Checking.{enough}
+use Rattle.zr_boxes.proofs.Descent.{no_equilibrium}
 use Rattle.zr_cert.specs.Certs.{BoundOf, BoxVerdict, CertOf, CoverVerdict, EmptyVerdict, MixtureOf, ProfileVerdict, VerdictOf, profile_with}
 use Rattle.zr_check.specs.Right.{IsRightCert, IsRightProfile, IsRightVerdict, IsEmptyTree}
 use Rattle.zr_check.specs.Truth.{IsTrueVerdict}
@@ -51,7 +52,8 @@ module _ (game : GameOf) (form : IsGame game) where
   true_if_right kind (ProfileVerdict mixtures bounds) right =
       (right.strategies.of_kind, enough game form (profile_with mixtures) right.strategies.valid (claims kind mixtures bounds right))
   true_if_right kind (CoverVerdict covers named proof) right = absurd right
-  true_if_right kind (BoxVerdict nodes) right = absurd right
+  true_if_right kind (BoxVerdict nodes) right =
+      subst (HasNoEquilibrium game) (sym right.0) (no_equilibrium game form right.1.tree right.1.right)
   true_if_right kind (EmptyVerdict i nodes) right = none_if_empty kind i right.0 right.1 nodes right.2
 
   -- a right certificate's verdict is true

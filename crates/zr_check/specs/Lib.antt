@@ -3,6 +3,7 @@ pub mod Right
 pub mod Truth
 pub mod Parts
 pub mod Bounds
+pub mod Boxes
 pub mod Checks
 pub mod WideSteps
 pub mod Rooms

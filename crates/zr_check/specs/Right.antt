@@ -7,11 +7,13 @@ use Rattle.zr_game.specs.Forms.{IsPlayer}
 use Rattle.zr_game.specs.Leaves.{Bound, bound_with, root_leaf}
 use Rattle.zr_game.specs.Profiles.{IsOfKind, IsProfile, Profile, expected_cost, total}
 use Rattle.zr_game.specs.declared.kind.Kind.{Kind}
+use Rattle.zr_game.specs.declared.kind.Kind.TheVariants.{Pure}
 use Rattle.zr_tree.specs.Nodes.{NodeOf}
 use Rattle.zr_tree.specs.Trees.{TreeOf, preorder}
 use Rattle.zr_tree.specs.Right.{IsRefuted, IsRight}
 use Rattle.zr_mix.specs.Checks.{IsClaimOf}
 use Rattle.zr_cert.specs.Certs.{BoundOf, BoxVerdict, CertOf, CoverVerdict, EmptyVerdict, MixtureOf, ProfileVerdict, VerdictOf, profile_with}
+use Rattle.zr_check.specs.Boxes.{AreRightBoxes}
 
 -- the nodes are those of a tree that proves the row on all points of the player
 pub record IsRowTree (player : PlayerOf) (row : Bound) (nodes : List NodeOf) : Type 0 where
@@ -45,12 +47,12 @@ pub record IsRightProfile (game : GameOf) (kind : Kind) (mixtures : List Mixture
   pub bounds_of : (i : ℕ) (player : PlayerOf) → IsPlayer game i player
       → (bound : BoundOf) × (slice_get bounds i ≡ Some bound) × IsRightBound player i (profile_with mixtures) bound
 
--- A verdict of covers or of boxes isn't shown by a certificate so far.
+-- A verdict of covers isn't shown by a certificate so far; one of boxes is shown for the pure kind.
 abbrev pub IsRightVerdict : GameOf → Kind → VerdictOf → Type 0
 IsRightVerdict game kind (ProfileVerdict mixtures bounds) = IsRightProfile game kind mixtures bounds
 IsRightVerdict game kind (CoverVerdict covers named proof) = ⊥
 IsRightVerdict game kind (EmptyVerdict i nodes) = (player : PlayerOf) × IsPlayer game i player × IsEmptyTree player nodes
-IsRightVerdict game kind (BoxVerdict nodes) = ⊥
+IsRightVerdict game kind (BoxVerdict nodes) = (kind ≡ Pure) × AreRightBoxes game nodes
 
 -- the certificate is for as many players as the game has, and its verdict is right
 pub record IsRightCert (game : GameOf) (c : CertOf) : Type 0 where

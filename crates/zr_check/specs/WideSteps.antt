@@ -9,6 +9,7 @@ use Rattle.zr_tree.specs.Nodes.{NodeOf}
 use Rattle.zr_tree.specs.Trees.{TreeOf, preorder}
 use Rattle.zr_tree.specs.Steps.{HasWideProof}
 use Rattle.zr_cert.specs.Certs.{BoundOf, BoxVerdict, CertOf, CoverVerdict, EmptyVerdict, MixtureOf, ProfileVerdict, VerdictOf}
+use Rattle.zr_check.specs.Boxes.{AreWideBoxes}
 use Rattle.zr_check.specs.Parts.{IsOfLength, IsWidePart}
 use Rattle.zr_check.specs.Bounds.{IsCostMade, IsWideCost, no_point}
 
@@ -49,7 +50,7 @@ pub record HasWideTree (game : GameOf) (mixtures : List MixtureOf) (bounds : Lis
 abbrev pub VerdictIsWide : GameOf → VerdictOf → Type 0
 VerdictIsWide game (ProfileVerdict mixtures bounds) = HasWidePart game mixtures ⊎ HasWideCost game mixtures ⊎ HasWideTree game mixtures bounds
 VerdictIsWide game (CoverVerdict covers named proof) = ⊥
-VerdictIsWide game (BoxVerdict nodes) = ⊥
+VerdictIsWide game (BoxVerdict nodes) = AreWideBoxes game nodes
 VerdictIsWide game (EmptyVerdict i nodes) = (player : PlayerOf) × IsPlayer game i player × IsWideTree player (no_point player) nodes
 
 -- at some line

@@ -185,7 +185,7 @@ pub(crate) fn check_tree(
 }
 
 /// The fault of a node, where the first node stands at `line`.
-fn at_line(line: u32, fault: Fault) -> CertFault
+pub(crate) fn at_line(line: u32, fault: Fault) -> CertFault
     requires { line + node_number fault < 2 ^ 32 }
     ensures { result ≡ line_of line fault }
 {

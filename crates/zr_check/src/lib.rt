@@ -1,6 +1,7 @@
 //! The check of a certificate: whether its verdict is shown.
 #![tactic(auto)]
 
+mod boxes;
 mod check;
 mod costs;
 mod laws;

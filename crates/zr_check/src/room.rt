@@ -7,11 +7,12 @@ ghost use Rattle.zr_tree.specs.Scratches.{most_vars};
 ghost use Rattle.zr_mix.specs.Steps.{place_of};
 ghost use Rattle.zr_cert.specs.Certs.{bound_of, verdict_of};
 ghost use Rattle.zr_cert.specs.Listed.{cert_of};
-ghost use Rattle.zr_check.specs.Rooms.{HasRoom, trees_of};
+ghost use Rattle.zr_check.specs.Rooms.{HasRoom, box_trees_of, trees_of};
 
 use std::alloc::Global;
 use std::marker::Model;
 use zr_base::{Frac, NoMemory};
+use zr_boxes::BoxScratch;
 use zr_cert::{Bound, Cert, Verdict};
 use zr_game::{Game, Player};
 use zr_tree::Scratch;
@@ -22,6 +23,7 @@ pub struct Room {
     /// The means of all players, one after another.
     pub(crate) means: Vec<Frac>,
     pub(crate) bench: Bench,
+    pub(crate) boxes: BoxScratch,
 }
 
 /// Room for the check of one player's bound.
@@ -39,7 +41,7 @@ impl Model for Room {
 
     ghost Value = { RoomOf };
 
-    ghost view = { λ r. record { scratch = r.bench.scratch; means = length r.means.items; slopes = length r.bench.slopes.items; claims = length r.bench.left.items } };
+    ghost view = { λ r. record { scratch = r.bench.scratch; means = length r.means.items; slopes = length r.bench.slopes.items; claims = length r.bench.left.items; boxes = r.boxes } };
 }
 
 /// Room for both checks of this certificate, whose places are enough for it. The call fails for want
@@ -58,7 +60,12 @@ pub fn scratch_for(alloc: Global, game: &Game, cert: &Cert) -> Result<Room, NoMe
         slopes,
         left,
     };
-    Ok(Room { means, bench })
+    let boxes = BoxScratch::new(alloc, game, greatest_box_tree(&cert.verdict))?;
+    Ok(Room {
+        means,
+        bench,
+        boxes,
+    })
 }
 
 fn fractions(alloc: Global, count: usize) -> Result<Vec<Frac>, NoMemory>
@@ -114,6 +121,25 @@ fn greatest_tree(verdict: &Verdict) -> usize
             proof: _,
         }
         | Verdict::NoneBoxes { tree: _ } => 0,
+    }
+}
+
+/// The greatest number of nodes of a box tree that is checked.
+fn greatest_box_tree(verdict: &Verdict) -> usize
+    ensures { All (λ nodes. length nodes ≤ result) (box_trees_of (verdict_of verdict.now)) }
+{
+    match verdict {
+        Verdict::NoneBoxes { tree } => tree.nodes.len(),
+        Verdict::Profile {
+            profile: _,
+            bounds: _,
+        }
+        | Verdict::NoneCover {
+            covers: _,
+            named: _,
+            proof: _,
+        }
+        | Verdict::NoneEmpty { player: _, tree: _ } => 0,
     }
 }
 

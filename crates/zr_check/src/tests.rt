@@ -3,6 +3,7 @@ use smallvec::SmallVec;
 use std::alloc::Global;
 use std::test::Fail;
 use zr_base::{Frac, Point, Row};
+use zr_boxes::{BNode, BoxTree};
 use zr_game::{CrossTerm, Game, Kind, Other, Player, Var};
 use zr_mix::{Part, Profile, Strategy};
 use zr_tree::{Node, Tree};
@@ -370,6 +371,61 @@ fn a_player_without_a_point(rt: HostRuntime) -> Result<(), Fail> {
         let tree = tree(rt.alloc(), lines)?;
         let verdict = Verdict::NoneEmpty { player, tree };
         let made = answers(rt.alloc(), &game, Kind::Mixed, 1, verdict)?;
+        assert_eq!(rt; made, (expected, Err(Bad(3))));
+    }
+    Ok(())
+}
+
+/// A node of a box tree as a table writes it: its player, and a split of its variable at a number,
+/// or the point that it deviates to, over this denominator.
+#[derive(Clone, Copy)]
+enum Piece {
+    Split(u32, i64),
+    Deviate(u32, i128, i128),
+}
+
+fn box_tree(alloc: Global, pieces: &[Piece]) -> Result<BoxTree, Fail> {
+    let mut nodes = Vec::new(alloc);
+    for piece in pieces {
+        nodes.push(match *piece {
+            Piece::Split(player, at) => BNode::Split { player, var: 0, at },
+            Piece::Deviate(player, num, den) => BNode::Deviate {
+                player,
+                point: Point::new(vec![in alloc; num]?, den).map_err(|_| Fail::from("no point"))?,
+            },
+        })?;
+    }
+    BoxTree::new(nodes).map_err(|_| Fail::from("no box tree"))
+}
+
+#[test]
+fn boxes_of_matching_pennies(rt: HostRuntime) -> Result<(), Fail> {
+    use CertFault::{Bad, Wide};
+    use Kind::{Mixed, Pure};
+    use Piece::{Deviate, Split};
+    let game = pennies(rt.alloc())?;
+    let last = Deviate(0, 0, 1);
+    let wide = Deviate(0, MOST, MOST);
+    let table: [(Kind, Piece, Piece, Answer); 5] = [
+        (Pure, Deviate(0, 1, 1), last, Ok(())),
+        (Mixed, Deviate(0, 1, 1), last, Err(Bad(3))),
+        (Pure, Deviate(0, 1, 1), Deviate(1, 0, 1), Err(Bad(10))),
+        (Pure, wide, last, Err(Wide(6))),
+        (Mixed, wide, last, Err(Bad(3))),
+    ];
+    for (kind, first, last, expected) in table {
+        let lines = [
+            Split(0, 0),
+            Split(1, 0),
+            first,
+            Deviate(1, 0, 1),
+            Split(1, 0),
+            Deviate(1, 1, 1),
+            last,
+        ];
+        let tree = box_tree(rt.alloc(), &lines)?;
+        let verdict = Verdict::NoneBoxes { tree };
+        let made = answers(rt.alloc(), &game, kind, 2, verdict)?;
         assert_eq!(rt; made, (expected, Err(Bad(3))));
     }
     Ok(())

@@ -132,14 +132,25 @@ fn every_cut_is_refused(rt: HostRuntime) -> Result<(), Fail> {
     Ok(())
 }
 
-/// What shows that there is no equilibrium where all players have points isn't taken yet.
+/// In each box of one profile of matching pennies one of the two deviates.
 #[test]
-fn covers_and_boxes_are_refused(rt: HostRuntime) -> Result<(), Fail> {
-    for (game, cert) in [
-        (PENNIES, BOXES_CERT),
-        (UNBOUNDED, UNBOUNDED_CERT),
-        (ENDLESS, ENDLESS_CERT),
-    ] {
+fn boxes_leave_no_pure_equilibrium(rt: HostRuntime) -> Result<(), Fail> {
+    let alloc = rt.alloc();
+    let ran = check_over(alloc, PENNIES, BOXES_CERT)?;
+    compare(&rt, &ran, (0, "accepted pure none\n", ""));
+    let other = with_line(alloc, BOXES_CERT, 10, "deviate 1 1 0")?;
+    let ran = check_over(alloc, PENNIES, other.as_str())?;
+    compare(&rt, &ran, (6, "", "zero: certificate: line 10: wrong\n"));
+    let mixed = with_line(alloc, BOXES_CERT, 2, "kind mixed 2")?;
+    let ran = check_over(alloc, PENNIES, mixed.as_str())?;
+    compare(&rt, &ran, (6, "", "zero: certificate: line 3: wrong\n"));
+    Ok(())
+}
+
+/// What shows that there is no equilibrium of players who all have points isn't taken yet.
+#[test]
+fn covers_are_refused(rt: HostRuntime) -> Result<(), Fail> {
+    for (game, cert) in [(UNBOUNDED, UNBOUNDED_CERT), (ENDLESS, ENDLESS_CERT)] {
         let ran = check_over(rt.alloc(), game, cert)?;
         compare(&rt, &ran, (6, "", "zero: certificate: line 3: wrong\n"));
     }

@@ -71,11 +71,20 @@ pub returns-in-NoneCover-clause-exact : goal.returns-in-NoneCover-clause-exact
 returns-in-NoneCover-clause-exact c =
     exact_if (game_of c.args.game.now) c.args.game.now.sound (cert_of c.args.cert.now) c.args.cert.now.sound (Err (Bad 3)) tt (returns-in-NoneCover-clause-err c)
 
+pub returns-in-NoneBoxes-clause-ok : goal.returns-in-NoneBoxes-clause-ok
+returns-in-NoneBoxes-clause-ok c =
+    let cert = c.args.cert.now in
+    on_ok_weaker c.check_boxes.result (cert_passes (game_of c.args.game.now) cert.kind cert.players (count ((goal.at.returns-in-NoneBoxes-clause-ok c).Else-cert-len)) cert.verdict (BoxVerdict (boxes_of c.in-NoneBoxes.tree)) (ap verdict_of c.in-NoneBoxes.is)) c.check_boxes.ensures.ok
+
 pub returns-in-NoneBoxes-clause-err : goal.returns-in-NoneBoxes-clause-err
 returns-in-NoneBoxes-clause-err c =
     let cert = c.args.cert.now in
-    cert_refused (game_of c.args.game.now) cert.kind cert.players (count ((goal.at.returns-in-NoneBoxes-clause-err c).Else-cert-len)) cert.verdict (BoxVerdict (boxes_of c.in-NoneBoxes.tree)) (ap verdict_of c.in-NoneBoxes.is) (Bad 3) refl
+    MatchResult-weaker c.check_boxes.result c.check_boxes.ensures.err (λ u h. h) (cert_refused (game_of c.args.game.now) cert.kind cert.players (count ((goal.at.returns-in-NoneBoxes-clause-err c).Else-cert-len)) cert.verdict (BoxVerdict (boxes_of c.in-NoneBoxes.tree)) (ap verdict_of c.in-NoneBoxes.is))
 
 pub returns-in-NoneBoxes-clause-exact : goal.returns-in-NoneBoxes-clause-exact
 returns-in-NoneBoxes-clause-exact c =
-    exact_if (game_of c.args.game.now) c.args.game.now.sound (cert_of c.args.cert.now) c.args.cert.now.sound (Err (Bad 3)) tt (returns-in-NoneBoxes-clause-err c)
+    exact_if (game_of c.args.game.now) c.args.game.now.sound (cert_of c.args.cert.now) c.args.cert.now.sound c.check_boxes.result (returns-in-NoneBoxes-clause-ok c) (returns-in-NoneBoxes-clause-err c)
+
+pub returns-in-NoneBoxes-clause-sound : goal.returns-in-NoneBoxes-clause-sound
+returns-in-NoneBoxes-clause-sound c =
+    true_if (game_of c.args.game.now) c.args.game.now.sound (cert_of c.args.cert.now) c.args.cert.now.sound c.check_boxes.result (returns-in-NoneBoxes-clause-ok c)
