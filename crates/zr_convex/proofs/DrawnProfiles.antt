@@ -1,5 +1,5 @@
 -- Over exact leaves what a solution draws is an equilibrium, and so is each profile that is alike.
-use Rattle.std.proofs.Common.{◌≡◌, ℕ, ◌<◌, arith, refl, sym, ap, subst, ◌∙◌, ℤ, pos, ◌+ℤ◌, ◌*ℤ◌, ◌≤ℤ◌, ◌<ℤ◌, List, [], ◌∷◌, length}
+use Rattle.std.proofs.Common.{◌≡◌, ℕ, ◌<◌, arith, refl, sym, ap, subst, ◌∙◌, ℤ, pos, ◌+ℤ◌, ◌*ℤ◌, ◌≤ℤ◌, ◌<ℤ◌, List, [], length}
 use Rattle.std.proofs.Math.IntN.{*ℤ_comm}
 use Rattle.std.proofs.lemmas.Int.{ints}
 use Rattle.std.proofs.lemmas.Option.{slice_get_within}
@@ -8,7 +8,7 @@ use Rattle.zr_base.specs.Points.{num_of, value_of}
 use Rattle.zr_base.specs.Sums.{sum_to}
 use Rattle.zr_base.proofs.Dense.{sum_to_same}
 use Rattle.zr_base.proofs.Divisors.{mul_positive}
-use Rattle.zr_base.proofs.Members.{each_back, each_front, each_weaker}
+use Rattle.zr_base.proofs.Members.{each_back, each_front}
 use Rattle.zr_base.proofs.Ring.{spread}
 use Rattle.zr_base.proofs.Worth.{Each, Worth, at_most, worth-below, worth-times, worth-wider, worth_of_same}
 use Rattle.zr_game.specs.Equilibria.{IsEquilibrium}
@@ -16,7 +16,7 @@ use Rattle.zr_game.specs.Feasible.{IsFeasible}
 use Rattle.zr_game.specs.Forms.{IsGame}
 use Rattle.zr_game.specs.Means.{IsBestAlongSlope, along_slope, mean, slope}
 use Rattle.zr_game.specs.Players.{GameOf, PlayerOf}
-use Rattle.zr_game.specs.Profiles.{IsOfKind, IsProfile, IsStrategyOver, Part, Profile, Strategy, strategy_of, total}
+use Rattle.zr_game.specs.Profiles.{IsOfKind, IsProfile, IsStrategyOver, Profile, Strategy, strategy_of}
 use Rattle.zr_game.specs.declared.choice.Choice.{Choice}
 use Rattle.zr_game.specs.declared.kind.Kind.{Kind}
 use Rattle.zr_game.specs.declared.kind.Kind.TheVariants.{Mixed, Pure}
@@ -30,16 +30,17 @@ use Rattle.zr_system.specs.Choices.{SolvesComplete}
 use Rattle.zr_system.specs.Forms.{FormHolds}
 use Rattle.zr_system.specs.Lines.{all_lines, base_lines, path_lines, row_of_line}
 use Rattle.zr_system.specs.Regions.{LeavesOf, cross_number, leaf_count, own_number, player_at, var_count}
-use Rattle.zr_system.proofs.Joined.{all_of_each, of_all_mapped}
+use Rattle.zr_system.proofs.Joined.{of_all_mapped}
 use Rattle.zr_system.proofs.Meeting.{Feasible, LineHolds, MeetsChoices}
 use Rattle.zr_refute.proofs.NoSolutions.{sides}
 use Rattle.zr_convex.proofs.CrossSums.{player_at_is, player_is, worth-slope_of}
 use Rattle.zr_convex.proofs.Dots.{dot}
-use Rattle.zr_convex.proofs.Drawing.{drawn_all, mean_is, one_drawn, share, share_is, whole_total}
+use Rattle.zr_convex.proofs.Drawing.{mean_of_shares, one_drawn, strategy}
 use Rattle.zr_convex.proofs.Firsts.{firsts_at, firsts_length}
 use Rattle.zr_convex.proofs.Insides.{in_of_lies}
 use Rattle.zr_convex.proofs.Levels.{all_level, cost_of, no_less}
 use Rattle.zr_convex.proofs.Orders.{scaled}
+use Rattle.zr_convex.proofs.Parts.{share_at, share_is}
 
 -- the order of two fractions, in whole numbers over different denominators
 most_of : (f g : Fraction) (n d m e : ℤ) → (pos 0) <ℤ d → (pos 0) <ℤ e → Worth d f n
@@ -55,15 +56,15 @@ module _ (game : GameOf) (form : IsGame game) (leaves : LeavesOf) (covers : AreC
   -- the sum of player k's shares in variable u
   abbrev sums : ℕ → ℕ → ℤ
   sums k u = sum_to (leaf_count leaves k)
-      (λ l. share game leaves kind x base choices exact covers positive k l u)
+      (λ l. share_at game x k l u)
 
   same_sum : (k u : ℕ) → u < var_count game k
       → sums k u ≡ sum_to (leaf_count leaves k) (λ l. x (Share k l u))
   same_sum k u h =
       sum_to_same (leaf_count leaves k)
-      (λ l. share game leaves kind x base choices exact covers positive k l u)
+      (λ l. share_at game x k l u)
       (λ l. x (Share k l u))
-      (λ l p. share_is game leaves kind x base choices exact covers positive k l u h)
+      (λ l p. share_is game x k l u h)
 
   -- a profile with these means is best along its slopes
   module _ (profile : Profile) (means : (k : ℕ) → k < length game → (u : ℕ)
@@ -140,7 +141,7 @@ module _ (game : GameOf) (form : IsGame game) (leaves : LeavesOf) (covers : AreC
   means_drawn k h u =
       subst (λ (parts : Strategy). Worth (x One) (mean parts u) (sums k u))
       (sym (strategy_drawn k h))
-      (mean_is game leaves kind x base choices exact covers positive k h u)
+      (mean_of_shares game leaves kind x base choices exact covers positive k h u)
 
   valid : IsProfile game (drawn_profile game leaves x)
   valid = record {
@@ -149,29 +150,9 @@ module _ (game : GameOf) (form : IsGame game) (leaves : LeavesOf) (covers : AreC
         (strategy_of (drawn_profile game leaves x) i)) (player_at_is game i player is)
         (subst (IsStrategyOver (Feasible game i))
         (sym (strategy_drawn i (slice_get_within game i player is)))
-        (strategy i (slice_get_within game i player is)));
+        (strategy game leaves kind x base choices exact covers positive i
+        (slice_get_within game i player is)));
   }
-    where
-      some : (parts : Strategy) → total parts ≡ x One → 0 < length parts
-      some [] e = absurd (omega (arith, ints, e, positive))
-      some (part ∷ parts) e = omega arith
-
-      strategy : (i : ℕ) → i < length game
-          → IsStrategyOver (Feasible game i) (drawn_strategy game leaves x i)
-      strategy i h =
-          let d = drawn_all game leaves kind x base choices exact covers positive i h
-          (leaf_count leaves i) (omega arith) in
-          let parts = drawn_strategy game leaves x i in
-          let G = λ (part : Part). ((pos 1) ≤ℤ part.weight) × Feasible game i part.point in
-          record {
-            some = some parts
-                (whole_total game leaves kind x base choices exact covers positive i h);
-            weights = all_of_each (λ part. (pos 1) ≤ℤ part.weight) parts
-                (each_weaker G (λ part. (pos 1) ≤ℤ part.weight) parts (λ part g. g.0) d.good);
-            points = all_of_each (λ part. Feasible game i part.point) parts
-                (each_weaker G (λ part. Feasible game i part.point) parts (λ part g. g.1)
-                d.good);
-          }
 
   pub drawn_equilibrium : IsEquilibrium game (drawn_profile game leaves x)
   drawn_equilibrium =

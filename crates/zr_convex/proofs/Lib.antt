@@ -11,5 +11,7 @@ pub mod Equilibria
 pub mod Paths
 pub mod Refuted
 pub mod Levels
+pub mod Parts
+pub mod Mixtures
 pub mod Drawing
 pub mod DrawnProfiles

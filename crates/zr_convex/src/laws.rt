@@ -1,4 +1,5 @@
-ghost use Rattle.std.specs.Prelude.{List, [], ℤ};
+ghost use Rattle.std.specs.Prelude.{◌↔◌, List, [], ℕ, ℤ};
+ghost use Rattle.zr_base.specs.Points.{PointOf};
 ghost use Rattle.zr_game.specs.Named.{NamedOf};
 ghost use Rattle.zr_game.specs.Players.{GameOf};
 ghost use Rattle.zr_game.specs.Forms.{IsGame};
@@ -12,6 +13,7 @@ ghost use Rattle.zr_system.specs.Choices.{HasCompleteSolution, SolvesComplete};
 ghost use Rattle.zr_system.specs.Covers.{AreCovers, AreExact};
 ghost use Rattle.zr_system.specs.Drawn.{drawn_profile};
 ghost use Rattle.zr_system.specs.Regions.{LeavesOf};
+ghost use Rattle.zr_system.specs.Unions.{IsMixture, IsSumOfShares};
 ghost use Rattle.zr_tree.specs.Trees.{TreeOf};
 ghost use Rattle.zr_cases.specs.Trees.{CasesOf};
 ghost use Rattle.zr_refute.specs.Covered.{ShowsNone};
@@ -54,4 +56,13 @@ pub fn law_of_drawn_profiles()
         → SolvesComplete game leaves kind path x
         → (profile : Profile) → IsProfile game profile
         → AreAlike (drawn_profile game leaves x) profile → IsEquilibrium game profile }
+{}
+
+/// A point is the mean of finitely many weighted points of a player's leaves exactly where it is the
+/// sum of the shares of a solution of the union's rows in which each leaf is on or off.
+///
+/// The rows are E. Balas's description of a union of polyhedra (1979).
+pub fn law_of_unions()
+    ensures { (game : GameOf) (leaves : LeavesOf) (i : ℕ) (x : PointOf)
+        → IsMixture game leaves i x ↔ IsSumOfShares game leaves i x }
 {}

@@ -3,4 +3,4 @@
 
 mod laws;
 
-pub use laws::{law_of_drawn_profiles, law_of_none, law_of_solutions};
+pub use laws::{law_of_drawn_profiles, law_of_none, law_of_solutions, law_of_unions};
