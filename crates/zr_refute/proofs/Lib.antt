@@ -10,3 +10,6 @@ pub mod Walking
 pub mod Moves
 pub mod Outcome
 pub mod CoveredLeaves
+pub mod Flagging
+pub mod Covering
+pub mod Assembled

@@ -5,3 +5,4 @@ pub mod Sums
 pub mod Visits
 pub mod Rooms
 pub mod Covered
+pub mod Flags

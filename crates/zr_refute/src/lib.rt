@@ -4,6 +4,7 @@
 mod check;
 mod laws;
 mod open;
+mod over;
 mod path;
 mod place;
 mod room;
@@ -11,6 +12,7 @@ mod sum;
 
 pub use check::refuted;
 pub use laws::{law_of_covered_points, law_of_no_solutions, law_of_passing_cases};
+pub use over::leaves_over;
 pub use room::CaseRoom;
 pub use zr_base::NoMemory;
 pub use zr_cases::{RNode, Refutation};
