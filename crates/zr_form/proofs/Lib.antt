@@ -10,3 +10,4 @@ pub mod Walking
 pub mod Composing
 pub mod AnySize
 pub mod Fieldwise
+pub mod Placing

@@ -7,6 +7,7 @@ use Rattle.zr_form.specs.declared.fault.LineFault.{LineFault}
 use Rattle.zr_form.specs.declared.fault.LineFault.TheVariants as faults
 use Rattle.zr_form.specs.Reading.{Bytes}
 use Rattle.zr_form.specs.Lines.{lines_of, concat}
+use Rattle.zr_form.specs.Code.{line_cut}
 
 -- the reading goes on past the place where `ls` is left
 abbrev pub IsBeyond : {Y : Type 0} → List Bytes → Result (Y × List Bytes) (List Bytes) → Type 0
@@ -39,3 +40,13 @@ fault_of false = faults.Form
 abbrev pub error_at : LineFault → ℕ → ReadError
 error_at faults.Form left = errors.Form left
 error_at faults.Number left = errors.Number left
+
+-- the line at the front and what follows it, or there is none, and the text is out of form where it begins
+abbrev pub IsFirstLine : Bytes → Result (Bor (List ℕ) × Bor (List ℕ)) ReadError → Type 0
+IsFirstLine bytes (Ok cut) = Some (cut.0.now, cut.1.now) ≡ line_cut bytes
+IsFirstLine bytes (Err e) = (None ≡ line_cut bytes) × (e ≡ errors.Form (length bytes))
+
+-- what was read of a line, or its fault with its place
+abbrev pub placed_fault : {X : Type 0} → ℕ → Result X LineFault → Result X ReadError
+placed_fault left (Ok x) = Ok x
+placed_fault left (Err fault) = Err (error_at fault left)

@@ -12,12 +12,14 @@ mod atoms;
 mod cut;
 mod fault;
 mod loose;
+mod taking;
 mod writing;
 
 pub use atoms::{positive, signed, small, word};
 pub use cut::{natural, next_field, next_line, number};
 pub use fault::{LineFault, ReadError};
 pub use loose::{any_integer, any_natural, any_positive, is_less};
+pub use taking::{first_line, placed};
 pub use writing::{put_integer, put_natural};
 
 #[cfg(test)]

@@ -18,7 +18,7 @@ use crate::point_fields::point;
 use crate::words::{BoxWord, box_word};
 use std::alloc::{AllocError, Global};
 use zr_cases::{BNode, BoxTree};
-use zr_form::{LineFault, ReadError, next_field, next_line, small};
+use zr_form::{LineFault, ReadError, first_line, next_field, placed, small};
 
 #[tactic(auto, unfolding(crate::specs::Reader::box_rest))]
 fn split(left: Option<&[u8]>) -> Option<BNode>
@@ -114,17 +114,11 @@ fn take_boxes(alloc: Global, bytes: &[u8]) -> Result<(Vec<BNode>, &[u8]), ReadEr
     let mut rest = bytes;
     let mut due: usize = 1;
     while due > 0 {
-        let Some((line, after)) = next_line(rest) else {
-            return Err(ReadError::Form(rest.len()));
-        };
-        match box_line(alloc, line)? {
-            Err(fault) => return Err(fault.at(rest.len())),
-            Ok(node) => {
-                due = due - 1 + count_of_boxes(&node);
-                nodes.push(node)?;
-                rest = after;
-            }
-        }
+        let (line, after) = first_line(rest)?;
+        let node = placed(box_line(alloc, line)?, rest.len())?;
+        due = due - 1 + count_of_boxes(&node);
+        nodes.push(node)?;
+        rest = after;
     }
     Ok((nodes, rest))
 }

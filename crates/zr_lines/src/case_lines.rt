@@ -15,7 +15,7 @@ use crate::multiplier_fields::counting;
 use crate::words::{CaseWord, case_word};
 use std::alloc::{AllocError, Global};
 use zr_cases::{RNode, Refutation, count_of_cases};
-use zr_form::{LineFault, ReadError, next_field, next_line, small};
+use zr_form::{LineFault, ReadError, first_line, next_field, placed, small};
 
 #[tactic(auto, unfolding(crate::specs::Reader::case_rest))]
 fn on_off(left: Option<&[u8]>) -> Option<RNode>
@@ -113,17 +113,11 @@ fn take_cases<'a>(
     let mut due: usize = 1;
     let players = leaves.len() as u32;
     while due > 0 {
-        let Some((line, after)) = next_line(rest) else {
-            return Err(ReadError::Form(rest.len()));
-        };
-        match case_line(alloc, line, players)? {
-            Err(fault) => return Err(fault.at(rest.len())),
-            Ok(node) => {
-                due = due - 1 + count_of_cases(&node, leaves);
-                nodes.push(node)?;
-                rest = after;
-            }
-        }
+        let (line, after) = first_line(rest)?;
+        let node = placed(case_line(alloc, line, players)?, rest.len())?;
+        due = due - 1 + count_of_cases(&node, leaves);
+        nodes.push(node)?;
+        rest = after;
     }
     Ok((nodes, rest))
 }

@@ -16,7 +16,7 @@ use crate::loose_point::{is_point, is_ray};
 use crate::point_fields::{point, ray};
 use crate::words::{NamedWord, named_word};
 use std::alloc::{AllocError, Global};
-use zr_form::{LineFault, ReadError, next_field, next_line, small, word};
+use zr_form::{LineFault, ReadError, first_line, next_field, placed, small, word};
 use zr_game::Named;
 
 /// How many points and rays follow, within the upper bounds.
@@ -129,13 +129,9 @@ fn named_line(alloc: Global, line: &[u8]) -> Result<Result<Named, LineFault>, Al
 fn take_named_count(bytes: &[u8]) -> Result<(u64, &[u8]), ReadError>
     ensures { Gives (λ n. n) result (one_read (by_fields (named_count_at true)) (lines_of bytes.now)) (one_read (by_fields (named_count_at false)) (lines_of bytes.now)) }
 {
-    let Some((line, rest)) = next_line(bytes) else {
-        return Err(ReadError::Form(bytes.len()));
-    };
-    match named_count_line(line) {
-        Ok(count) => Ok((count, rest)),
-        Err(fault) => Err(fault.at(bytes.len())),
-    }
+    let (line, rest) = first_line(bytes)?;
+    let count = placed(named_count_line(line), bytes.len())?;
+    Ok((count, rest))
 }
 
 /// So many points and rays, and what follows them.
@@ -145,16 +141,10 @@ fn take_items(alloc: Global, bytes: &[u8], count: u64) -> Result<(Vec<Named>, &[
     let mut items = Vec::new(alloc);
     let mut rest = bytes;
     for _ in 0..count {
-        let Some((line, after)) = next_line(rest) else {
-            return Err(ReadError::Form(rest.len()));
-        };
-        match named_line(alloc, line)? {
-            Err(fault) => return Err(fault.at(rest.len())),
-            Ok(item) => {
-                items.push(item)?;
-                rest = after;
-            }
-        }
+        let (line, after) = first_line(rest)?;
+        let item = placed(named_line(alloc, line)?, rest.len())?;
+        items.push(item)?;
+        rest = after;
     }
     Ok((items, rest))
 }

@@ -11,7 +11,7 @@ ghost use Rattle.zr_lines.specs.Reader.{tree_read};
 use crate::ends::Ends;
 use crate::node::node_line;
 use std::alloc::Global;
-use zr_form::{ReadError, next_line};
+use zr_form::{ReadError, first_line, placed};
 use zr_tree::{Node, Tree};
 
 fn count_of_children(node: &Node) -> usize
@@ -32,17 +32,11 @@ fn take_nodes(alloc: Global, bytes: &[u8], ends: Ends) -> Result<(Vec<Node>, &[u
     let mut rest = bytes;
     let mut due: usize = 1;
     while due > 0 {
-        let Some((line, after)) = next_line(rest) else {
-            return Err(ReadError::Form(rest.len()));
-        };
-        match node_line(alloc, line, ends)? {
-            Err(fault) => return Err(fault.at(rest.len())),
-            Ok(node) => {
-                due = due - 1 + count_of_children(&node);
-                nodes.push(node)?;
-                rest = after;
-            }
-        }
+        let (line, after) = first_line(rest)?;
+        let node = placed(node_line(alloc, line, ends)?, rest.len())?;
+        due = due - 1 + count_of_children(&node);
+        nodes.push(node)?;
+        rest = after;
     }
     Ok((nodes, rest))
 }

@@ -15,7 +15,7 @@ use crate::loose::is_cost;
 use std::alloc::Global;
 use zr_base::{Frac, gcd};
 use zr_cert::Bound;
-use zr_form::{LineFault, ReadError, next_line, positive, signed, word};
+use zr_form::{LineFault, ReadError, first_line, placed, positive, signed, word};
 use zr_lines::{Ends, ended, index, take_tree};
 
 /// The fraction, if it is in lowest terms.
@@ -64,15 +64,11 @@ fn take_bound(alloc: Global, bytes: &[u8], i: u32) -> Result<(Bound, &[u8]), Rea
     requires { length bytes.now < 2 ^ 32 }
     ensures { Gives bound_of result (bound_read true i (lines_of bytes.now)) (bound_read false i (lines_of bytes.now)) }
 {
-    let Some((line, rest)) = next_line(bytes) else {
-        return Err(ReadError::Form(bytes.len()));
-    };
-    match cost_line(line, i) {
-        Err(fault) => Err(fault.at(bytes.len())),
-        Ok(cost) => match take_tree(alloc, rest, Ends::Proofs) {
-            Err(error) => Err(error),
-            Ok((tree, rest)) => Ok((Bound { cost, tree }, rest)),
-        },
+    let (line, rest) = first_line(bytes)?;
+    let cost = placed(cost_line(line, i), bytes.len())?;
+    match take_tree(alloc, rest, Ends::Proofs) {
+        Err(error) => Err(error),
+        Ok((tree, rest)) => Ok((Bound { cost, tree }, rest)),
     }
 }
 

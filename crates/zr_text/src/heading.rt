@@ -13,7 +13,7 @@ ghost use Rattle.zr_text.specs.declared.words.NoneWord.TheVariants as a_word;
 
 use crate::loose::{is_kind, is_verdict_line};
 use crate::words::{NoneWord, none_word};
-use zr_form::{LineFault, ReadError, next_field, next_line, small, word};
+use zr_form::{LineFault, ReadError, first_line, next_field, placed, small, word};
 use zr_game::Kind;
 use zr_lines::{INDEX_LIMIT, ended};
 
@@ -81,13 +81,9 @@ fn kind_line(line: &[u8]) -> Result<(Kind, u32), LineFault>
 pub(crate) fn take_kind(bytes: &[u8]) -> Result<((Kind, u32), &[u8]), ReadError>
     ensures { Gives (λ h. (h.0, h.1)) result (one_read (by_fields (kind_at true)) (lines_of bytes.now)) (one_read (by_fields (kind_at false)) (lines_of bytes.now)) }
 {
-    let Some((line, rest)) = next_line(bytes) else {
-        return Err(ReadError::Form(bytes.len()));
-    };
-    match kind_line(line) {
-        Ok(head) => Ok((head, rest)),
-        Err(fault) => Err(fault.at(bytes.len())),
-    }
+    let (line, rest) = first_line(bytes)?;
+    let head = placed(kind_line(line), bytes.len())?;
+    Ok((head, rest))
 }
 
 /// Whether it says that a profile follows, and what follows that word.
@@ -177,13 +173,9 @@ fn verdict_line(line: &[u8]) -> Result<VerdictLine, LineFault>
 pub(crate) fn take_verdict_line(bytes: &[u8]) -> Result<(VerdictLine, &[u8]), ReadError>
     ensures { Gives verdict_line_of result (one_read (by_fields (verdict_line_at true)) (lines_of bytes.now)) (one_read (by_fields (verdict_line_at false)) (lines_of bytes.now)) }
 {
-    let Some((line, rest)) = next_line(bytes) else {
-        return Err(ReadError::Form(bytes.len()));
-    };
-    match verdict_line(line) {
-        Ok(said) => Ok((said, rest)),
-        Err(fault) => Err(fault.at(bytes.len())),
-    }
+    let (line, rest) = first_line(bytes)?;
+    let said = placed(verdict_line(line), bytes.len())?;
+    Ok((said, rest))
 }
 
 /// Whether the line is the word.
@@ -201,9 +193,7 @@ fn is_word(line: &[u8], name: &[u8]) -> bool
 pub(crate) fn take_word<'a>(bytes: &'a [u8], name: &[u8]) -> Result<&'a [u8], ReadError>
     ensures { GivesThis name.now result (one_read (by_fields (word_at name.now)) (lines_of bytes.now)) }
 {
-    let Some((line, rest)) = next_line(bytes) else {
-        return Err(ReadError::Form(bytes.len()));
-    };
+    let (line, rest) = first_line(bytes)?;
     if is_word(line, name) {
         Ok(rest)
     } else {

@@ -13,7 +13,7 @@ ghost use Rattle.zr_text.specs.Reader.{part_at, player_at, strategy_read};
 
 use crate::loose::{is_part, is_player};
 use std::alloc::{AllocError, Global};
-use zr_form::{LineFault, ReadError, next_line, positive, word};
+use zr_form::{LineFault, ReadError, first_line, placed, positive, word};
 use zr_lines::{count, ended, index, point};
 use zr_mix::{Part, Strategy};
 
@@ -79,13 +79,9 @@ fn player_line(line: &[u8], i: u32) -> Result<(i128, u64), LineFault>
 fn take_player(bytes: &[u8], i: u32) -> Result<((i128, u64), &[u8]), ReadError>
     ensures { Gives (λ h. (i, (h.0, h.1))) result (one_read (by_fields (player_at true i)) (lines_of bytes.now)) (one_read (by_fields (player_at false i)) (lines_of bytes.now)) }
 {
-    let Some((line, rest)) = next_line(bytes) else {
-        return Err(ReadError::Form(bytes.len()));
-    };
-    match player_line(line, i) {
-        Ok(head) => Ok((head, rest)),
-        Err(fault) => Err(fault.at(bytes.len())),
-    }
+    let (line, rest) = first_line(bytes)?;
+    let head = placed(player_line(line, i), bytes.len())?;
+    Ok((head, rest))
 }
 
 /// So many parts, and what follows them.
@@ -95,16 +91,10 @@ fn take_parts(alloc: Global, bytes: &[u8], count: u64) -> Result<(Vec<Part>, &[u
     let mut parts = Vec::new(alloc);
     let mut rest = bytes;
     for _ in 0..count {
-        let Some((line, after)) = next_line(rest) else {
-            return Err(ReadError::Form(rest.len()));
-        };
-        match part_line(alloc, line)? {
-            Err(fault) => return Err(fault.at(rest.len())),
-            Ok(part) => {
-                parts.push(part)?;
-                rest = after;
-            }
-        }
+        let (line, after) = first_line(rest)?;
+        let part = placed(part_line(alloc, line)?, rest.len())?;
+        parts.push(part)?;
+        rest = after;
     }
     Ok((parts, rest))
 }

@@ -1,19 +1,36 @@
-use Rattle.std.proofs.Common.{ℕ, true, false}
-use Rattle.zr_form.proofs.Composing.{line_absent, line_bad, line_ok}
-use Rattle.zr_form.proofs.Walking.{line_is, line_missing}
+use Rattle.std.proofs.Common.{ℕ, length, true, false}
+use Rattle.std.proofs.lemmas.Result.{err_from_is_err_and}
+use Rattle.zr_form.specs.Lines.{fields_of}
+use Rattle.zr_form.proofs.Composing.{line_ok}
+use Rattle.zr_form.proofs.Placing.{first_stops, placed_reads, placed_stops}
+use Rattle.zr_form.proofs.Walking.{line_is}
 use Rattle.zr_game.specs.declared.kind.Kind.{Kind}
 use Rattle.zr_text.specs.Reader.{kind_at}
 use Rattle.zr_text.proofs.heading.take_kind.Goals as goal
 
-pub returns-in_default : goal.returns-in_default
-returns-in_default c = line_absent (kind_at true) (kind_at false) c.args.bytes.now (line_missing c.args.bytes.now c.in_default.ensures)
+pub returns-in_err-line : goal.returns-in_err-line
+returns-in_err-line c =
+    let p = err_from_is_err_and c.from_residual.result c.from_residual.ensures.1 in
+    rw (p.1, p.2) (first_stops (kind_at true) (kind_at false) c.args.bytes.now
+    c.in_err-line.field-0.0 c.in_err-line.ensures)
 
-pub returns-in-Ok : goal.returns-in-Ok
-returns-in-Ok c =
-    let l = line_is c.args.bytes.now c.in-Some.line.now c.in-Some.rest.now c.in-Some.ensures in
-    line_ok (kind_at true) (kind_at false) c.args.bytes.now c.in-Some.line.now c.in-Some.rest.now (c.in-Ok.head.0, c.in-Ok.head.1) l c.in-Ok.ensures
+pub returns-in_err-head : goal.returns-in_err-head
+returns-in_err-head c =
+    let p = err_from_is_err_and c.from_residual-in_err-head.result
+    c.from_residual-in_err-head.ensures.1 in
+    let l = line_is c.args.bytes.now c.in_ok-line.line.now c.in_ok-line.rest.now
+    c.in_ok-line.ensures in
+    rw (p.1, p.2) (placed_stops (λ (h : Kind × ℕ). (h.0, h.1)) (kind_at true) (kind_at false)
+    c.args.bytes.now c.in_ok-line.line.now c.in_ok-line.rest.now c.kind_line.result
+    c.in_err-head.field-0.0 l c.kind_line.ensures c.in_err-head.ensures)
 
-pub returns-in-Err : goal.returns-in-Err
-returns-in-Err c =
-    let l = line_is c.args.bytes.now c.in-Some.line.now c.in-Some.rest.now c.in-Some.ensures in
-    rw c.at.ensures (line_bad (λ (h : Kind × ℕ). (h.0, h.1)) (kind_at true) (kind_at false) c.args.bytes.now c.in-Some.line.now c.in-Some.rest.now c.in-Err.fault l c.in-Err.ensures)
+pub returns : goal.returns
+returns c =
+    let l = line_is c.args.bytes.now c.in_ok-line.line.now c.in_ok-line.rest.now
+    c.in_ok-line.ensures in
+    let fs = fields_of c.in_ok-line.line.now in
+    line_ok (kind_at true) (kind_at false) c.args.bytes.now c.in_ok-line.line.now
+    c.in_ok-line.rest.now (c.in_ok-head.head.0, c.in_ok-head.head.1) l
+    (placed_reads (λ (h : Kind × ℕ). (h.0, h.1)) (kind_at true fs) (kind_at false fs)
+    (length c.args.bytes.now) c.kind_line.result c.in_ok-head.head
+    c.kind_line.ensures c.in_ok-head.ensures)
