@@ -144,9 +144,14 @@ pub sizes_more : (game : GameOf) (leaves : List Leaf) (i : ℕ) (player : Player
 sizes_more game leaves i player leaf before is of_player =
     let below = slice_get_within game i player is in
     let size : leaf_size leaf ≡ player_size player =
-    (λ j. record { lows = of_player.lows j; highs = of_player.highs j; sides = of_player.sides j }) in
+    (λ j. record {
+      lows = of_player.lows j;
+      highs = of_player.highs j;
+      sides = of_player.sides j;
+    }) in
     map-append leaf_size leaves (leaf ∷ []) ∙
     ap₂ (λ (xs ys : List LeafSize). xs ++ ys) before
-    (ap (λ s. s ∷ []) (size ∙ ap player_size (sym (get_or_from_slice_get game i player player is)))) ∙
+    (ap (λ s. s ∷ [])
+    (size ∙ ap player_size (sym (get_or_from_slice_get game i player player is)))) ∙
     sym (ap (map player_size) (take_more game i player below) ∙
     map-append player_size (take i game) (get_or game i player ∷ []))

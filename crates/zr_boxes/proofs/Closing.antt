@@ -34,9 +34,10 @@ none_some (Some w) e h = cc
 is_some : (o : Option Wide) (w : Wide) → o ≡ Some w → IsSome o
 is_some o w e = subst (λ p. IsSome p) (sym e) refl
 
-module _ (game : GameOf) (box : BoxOf) (i : ℕ) (player : PlayerOf) (is : IsPlayer game i player) where
-  module _ (x : PointOf) (len : length x.num ≡ length player.vars) (bounded : IsBounded player i box)
-    where
+module _ (game : GameOf) (box : BoxOf) (i : ℕ) (player : PlayerOf) (is : IsPlayer game i player)
+  where
+    module _ (x : PointOf) (len : length x.num ≡ length player.vars)
+        (bounded : IsBounded player i box) where
       pub wide_point : (w : Wide) → feasible_wide player x ≡ Some w
           → EndTells (Err w) game box (DeviateNode i x)
       wide_point w e = (
@@ -72,7 +73,8 @@ module _ (game : GameOf) (box : BoxOf) (i : ℕ) (player : PlayerOf) (is : IsPla
               gain = subst (λ z. (pos 0) <ℤ z) value (is_above.0 b.1);
             },
           ),
-          λ p. back (subst (λ (q : PlayerOf). IsBetter q i box x) (one game i p.0 player p.1 is) p.2),
+          λ p. back (subst (λ (q : PlayerOf). IsBetter q i box x) (one game i p.0 player p.1 is)
+              p.2),
         ),
       )
         where
@@ -86,17 +88,19 @@ module _ (game : GameOf) (box : BoxOf) (i : ℕ) (player : PlayerOf) (is : IsPla
 
           back : IsBetter player i box x → IsTrue (feasible && above)
           back b =
-              true_both feasible above (tells.1.1 b.feasible) (is_above.1 (subst (λ z. (pos 0) <ℤ z) (sym value) b.gain))
+              true_both feasible above (tells.1.1 b.feasible)
+              (is_above.1 (subst (λ z. (pos 0) <ℤ z) (sym value) b.gain))
 
-  module _ (mult : Multipliers) where
-    pub rows_tell : (result : Result Bool Wide) → RowsTell result player (box i) mult
-        → EndTells result game box (EmptyNode i mult)
-    rows_tell (Err w) h = (player, is, h)
-    rows_tell (Ok refutes) h = (
-      λ w. h.0 (subst (λ (p : PlayerOf). HasWideRows p (box i) mult) (one game i w.0 player w.1 is)
-          w.2),
-      (
-        λ r. (player, is, h.1.0 r),
-        λ p. h.1.1 (subst (λ (q : PlayerOf). IsRefutation q (box i) (pos 0) mult) (one game i p.0 player p.1 is) p.2),
-      ),
-    )
+    module _ (mult : Multipliers) where
+      pub rows_tell : (result : Result Bool Wide) → RowsTell result player (box i) mult
+          → EndTells result game box (EmptyNode i mult)
+      rows_tell (Err w) h = (player, is, h)
+      rows_tell (Ok refutes) h = (
+        λ w. h.0 (subst (λ (p : PlayerOf). HasWideRows p (box i) mult) (one game i w.0 player w.1 is)
+            w.2),
+        (
+          λ r. (player, is, h.1.0 r),
+          λ p. h.1.1 (subst (λ (q : PlayerOf). IsRefutation q (box i) (pos 0) mult)
+              (one game i p.0 player p.1 is) p.2),
+        ),
+      )

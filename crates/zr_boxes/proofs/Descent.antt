@@ -1,4 +1,5 @@
--- Each pure profile is in one of a box tree's boxes; so a right box tree leaves no pure equilibrium.
+-- Each pure profile is in one of a box tree's boxes; so a right box tree leaves no pure
+-- equilibrium.
 use Rattle.std.proofs.Common.{◌≡◌, ◌≢◌, ℕ, arith, sym, subst, pos, List, set, All, ⊎_elim}
 use Rattle.std.specs.Option.{option_map_or}
 use Rattle.std.proofs.lemmas.Bool.{cases_eq}
@@ -58,7 +59,8 @@ module _ (game : GameOf) (form : IsGame game) (points : List PointOf)
           subst (λ n. (other : PlayerOf) → IsPlayer game n other
           → Inside other (with_leaf box i leaf n) (point_of points n)) e
           (λ other is_other. subst (λ (l : LeafOf). Inside other l (point_of points i))
-          (sym (at_same leaf (box i) i)) (subst (λ (p : PlayerOf). Inside p leaf (point_of points i))
+          (sym (at_same leaf (box i) i))
+          (subst (λ (p : PlayerOf). Inside p leaf (point_of points i))
           (one game i player other is is_other) inside))
 
   none_in : (t : BoxTreeOf) (box : BoxOf) → AllInside game box points → IsRightBox game box t → ⊥

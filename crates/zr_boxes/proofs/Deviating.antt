@@ -1,4 +1,5 @@
--- Where the least gain of a point is above zero, the player pays less at the point than anywhere in the box.
+-- Where the least gain of a point is above zero, the player pays less at the point than anywhere in
+-- the box.
 use Rattle.std.proofs.Common.{◌≡◌, ℕ, ◌<◌, ◌==◌, arith, refl, sym, ap₂, subst, ◌∙◌, ℤ, pos, ◌*ℤ◌, ◌<ℤ◌, ◌≤ℤ◌, Bool, true, false, cond, ◌||◌, IsSome, Option, Some, None, List, [], ◌∷◌, length, map, set, int_le, ◌⊎◌, ⊎_elim, inl, inr}
 use Rattle.std.specs.List.{filter, list_any}
 use Rattle.std.specs.Option.{unwrap_or}

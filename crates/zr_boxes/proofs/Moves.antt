@@ -54,7 +54,8 @@ module _ (game : GameOf) (nodes : List BNode) where
       → (t : BoxTreeOf) → box_preorder t ≡ listed → BoxPasses game (root_box game) t
   standing_last k path h s t is =
       let r = s t is in
-      let none : drop k listed ≡ [] = drop_all k listed (omega (arith, h, length-map nodes bnode_of)) in
+      let n = length-map nodes bnode_of in
+      let none : drop k listed ≡ [] = drop_all k listed (omega (arith, h, n)) in
       at_end game t k r.0 (subst (λ (ns : List BNodeOf). Walked game t k ns r.0) none r.2)
 
   module _ (k : ℕ) (node : BNode) (below : k < length nodes) (is : node ≡ get_or nodes k node)

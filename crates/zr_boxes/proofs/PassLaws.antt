@@ -23,7 +23,8 @@ at_node Own Passed First Second bad apart f g first second r s =
     (λ (b : (Own × First g) ⊎ (Own × Passed × Second g)). both a b) s) r
   where
     own : (fault : Fault) → (Own × First fault) ⊎ (Own × Passed × Second fault) → Own
-    own fault i = ⊎_elim (λ (u : Own × First fault). u.0) (λ (u : Own × Passed × Second fault). u.0) i
+    own fault i =
+        ⊎_elim (λ (u : Own × First fault). u.0) (λ (u : Own × Passed × Second fault). u.0) i
 
     both : (Own × First f) ⊎ (Own × Passed × Second f)
         → (Own × First g) ⊎ (Own × Passed × Second g) → f ≡ g

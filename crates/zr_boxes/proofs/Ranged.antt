@@ -133,7 +133,8 @@ finish l a b m n y z f g h =
     let w : (a *ℤ z) *ℤ m ≡ (a *ℤ m) *ℤ z = simp spread refl in
     omega (arith, ints, f, g, h, u, w)
 
--- y is m times a value from a to b, z is n times one from c to e, and l is at most each product of their ends
+-- y is m times a value from a to b, z is n times one from c to e, and l is at most each product of
+-- their ends
 module _ (l a b c e m n y z : ℤ) (above_m : (pos 0) <ℤ m) (above_n : (pos 0) <ℤ n)
     (low : (a *ℤ m) ≤ℤ y) (high : y ≤ℤ (b *ℤ m)) (left : (c *ℤ n) ≤ℤ z) (right : z ≤ℤ (e *ℤ n))
   where
@@ -171,8 +172,8 @@ module _ (l a b c e m n y z : ℤ) (above_m : (pos 0) <ℤ m) (above_n : (pos 0)
             let w = *ℤ_comm z y in
             omega (arith, ints, k, u, w)
 
--- where y is m times a value in the first range and z is n times one in the second, their product is m times n times the
--- least one at least
+-- where y is m times a value in the first range and z is n times one in the second, their product is
+-- m times n times the least one at least
 pub product_above : (r s : Range) (m n y z : ℤ) → (pos 0) <ℤ m → (pos 0) <ℤ n
     → (r.low *ℤ m) ≤ℤ y → y ≤ℤ (r.high *ℤ m) → (s.low *ℤ n) ≤ℤ z → z ≤ℤ (s.high *ℤ n)
     → (least_product r s *ℤ (m *ℤ n)) ≤ℤ (y *ℤ z)

@@ -77,7 +77,8 @@ module _ (game : GameOf) where
   kid_count box (Empty i mult) = refl
   kid_count box (Deviate i x) = refl
 
-  -- k nodes are seen; those that are left are the trees of the boxes that are due, and the whole tree stands with them
+  -- k nodes are seen; those that are left are the trees of the boxes that are due, and the whole
+  -- tree stands with them
   pub record Walked (whole : BoxTreeOf) (k : ℕ) (nodes : List BNodeOf) (boxes : List BoxOf)
       : Type 0 where
     pub trees : List BoxTreeOf

@@ -20,18 +20,21 @@ cross_of_var player v = filter (λ t. t.own == v) player.cross
 abbrev pub counts : PlayerOf → ℕ → Bool
 counts player v = list_any (λ t. t.0 == v) player.cost || list_any (λ t. t.own == v) player.cross
 
--- the bounds in the box that such variables and those of the other players in cross terms need are there
+-- the bounds in the box that such variables need, and those of the other players in cross terms,
+-- are there
 pub record IsBounded (player : PlayerOf) (i : ℕ) (box : BoxOf) : Type 0 where
   pub own : All (λ t. HasRange box i t.0) player.cost
   pub cross : All (λ t. HasRange box i t.own) player.cross
   pub others : All (λ t. HasRange box t.player t.var) player.cross
 
--- each number of a cross term of v with the other variable at the end where their product is least, or greatest
+-- each number of a cross term of v with the other variable at the end where their product is least,
+-- or greatest
 abbrev pub end_terms : End → PlayerOf → BoxOf → ℕ → List (ℤ × ℤ)
 end_terms end player box v =
     map (λ t. (t.coef, end_at end t.coef (range_of box t.player t.var))) (cross_of_var player v)
 
--- the slope of the cost along v in the box: the own number, and the cross terms from the least to the greatest
+-- the slope of the cost along v in the box: the own number, and the cross terms from the least to
+-- the greatest
 abbrev pub slope_range : PlayerOf → BoxOf → ℕ → Range
 slope_range player box v = record {
   low = coef_at player.cost v +ℤ sum_products (end_terms Least player box v);
@@ -45,8 +48,10 @@ way_range i box x v = shifted x.den (num_of x v) (range_of box i v)
 -- what v adds to the gain at least
 abbrev pub var_gain : PlayerOf → ℕ → BoxOf → PointOf → ℕ → ℤ
 var_gain player i box x v =
-    if counts player v then least_product (way_range i box x v) (slope_range player box v) else pos 0
+    if counts player v then least_product (way_range i box x v) (slope_range player box v)
+    else pos 0
 
--- a lower bound, in the box, of the cost of player i less its cost at the point, times the point's denominator
+-- a lower bound, in the box, of the cost of player i less its cost at the point, times the point's
+-- denominator
 abbrev pub least_gain : PlayerOf → ℕ → BoxOf → PointOf → ℤ
 least_gain player i box x = sum_to (length player.vars) (var_gain player i box x)

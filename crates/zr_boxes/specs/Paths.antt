@@ -1,4 +1,5 @@
--- Where a walk through a box tree stands: the current box, and the nodes above it with what they changed.
+-- Where a walk through a box tree stands: the current box, and the nodes above it with what they
+-- changed.
 use Rattle.std.specs.Prelude.{◌≡◌, ℕ, zero, suc, ◌<◌, ◌≤◌, ℤ, ◌≤ℤ◌, Option, None, List, [], ◌∷◌, ◌++◌, length, map, slice_get, slice_index_or, ◌⊎◌}
 use Rattle.std.specs.Option.{option_map_or}
 use Rattle.zr_game.specs.declared.leaf.Leaf.{Leaf}

@@ -23,8 +23,8 @@ HasWideRows player leaf mult =
     ArePresent (slots player leaf) mult
     × HasWideStep (length player.vars) (slots player leaf) mult
 
--- a step of the point's test or of the gain is too wide; they are made where the point has a number for each variable and
--- the bounds are there
+-- a step of the point's test or of the gain is too wide; they are made where the point has a number
+-- for each variable and the bounds are there
 pub record HasWideGain (player : PlayerOf) (i : ℕ) (box : BoxOf) (x : PointOf) : Type 0 where
   pub len : length x.num ≡ length player.vars
   pub bounded : IsBounded player i box
@@ -70,8 +70,8 @@ box_size (Cut i v at first second) = 1 + box_size first + box_size second
 box_size (Empty i mult) = 1
 box_size (Deviate i x) = 1
 
--- where the node itself is wrong the fault is Bad at its number k; else the fault is that of the first child, or, where that
--- passes, of the second
+-- where the node itself is wrong the fault is Bad at its number k; else the fault is that of the
+-- first child, or, where that passes, of the second
 abbrev pub IsRefusedBox : GameOf → ℕ → BoxOf → BoxTreeOf → Fault → Type 0
 IsRefusedBox game k box (Cut i v at first second) fault =
     ((HasWholeVar game i v → ⊥) × (fault ≡ Bad k))

@@ -36,7 +36,8 @@ EndTells (Ok closes) game box node =
     (IsWideEnd game box node → ⊥) × (IsTrue closes ↔ ClosesBox game box node)
 EndTells (Err w) game box node = IsWideEnd game box node
 
--- the answer whether the sums of a combination are zero in the first n columns, or that a step of one is too wide
+-- the answer whether the sums of a combination are zero in the first n columns, or that a step of
+-- one is too wide
 abbrev pub ColumnsTell : Result Bool Wide → ℕ → List (Option Bound) → Multipliers → Type 0
 ColumnsTell (Ok zero) n rows mult =
     ((j : ℕ) → j < n → IsErr (left_steps rows mult j) → ⊥)

@@ -34,8 +34,8 @@ use zr_tree::Fault;
 /// slots are present, and where the point has a number for each variable and no bound is missing, a
 /// sum that is too wide comes before that.
 ///
-/// `scratch` has places for the tree's nodes, and a leaf for each player of the game with places for
-/// just its variables and pairs; it keeps them.
+/// `scratch` has places for the tree's nodes, and a leaf for each player of the game with places
+/// for just its variables and pairs; it keeps them.
 pub fn box_refuted(game: &Game, tree: &BoxTree, scratch: &mut BoxScratch) -> Result<(), Fault>
     requires nodes { length tree.now.nodes.items ≤ scratch.old.nodes }
     requires leaves { FitsGame (game_of game.now) scratch.old }

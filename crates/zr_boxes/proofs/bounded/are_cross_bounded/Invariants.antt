@@ -4,4 +4,5 @@ use Rattle.zr_boxes.specs.Ranges.{HasRange}
 use Rattle.zr_boxes.proofs.bounded.are_cross_bounded.Given as goal
 
 abbrev pub invariant-loop-term : goal.invariant-loop-term
-invariant-loop-term l = Checked l.term-index (λ k t. HasRange (box_of l.leaves) l.i t.own) l.cross l.all
+invariant-loop-term l =
+    Checked l.term-index (λ k t. HasRange (box_of l.leaves) l.i t.own) l.cross l.all

@@ -13,7 +13,8 @@ use Rattle.zr_boxes.proofs.Closing.{rows_tell}
 use Rattle.zr_boxes.proofs.close.empties.Goals as goal
 use Rattle.zr_boxes.proofs.close.empties.Goals.{After-index, After-index-2}
 
-is_player : (c : After-index) → IsPlayer (game_of c.args.game.now) c.args.i (player_of c.index.result.now)
+is_player : (c : After-index)
+    → IsPlayer (game_of c.args.game.now) c.args.i (player_of c.index.result.now)
 is_player c =
     found player_of c.args.game.now.players.items c.args.i c.index.result.now
     (omega (arith, c.if-i-len.false, c.len.ensures, c.args.game.now.players.ok.0)) c.index.ensures

@@ -13,19 +13,22 @@ use Rattle.zr_boxes.proofs.Closing.{better_tells, wide_gain, wide_point}
 use Rattle.zr_boxes.proofs.close.has_better.Goals as goal
 use Rattle.zr_boxes.proofs.close.has_better.Goals.{After-feasible}
 
-is_player : (c : After-feasible) → IsPlayer (game_of c.args.game.now) c.args.i (player_of c.index-player.result.now)
+is_player : (c : After-feasible)
+    → IsPlayer (game_of c.args.game.now) c.args.i (player_of c.index-player.result.now)
 is_player c =
     found player_of c.args.game.now.players.items c.args.i c.index-player.result.now
     (omega (arith, c.if-i-len.false, c.len.ensures, c.args.game.now.players.ok.0))
     c.index-player.ensures
 
-same_length : (c : After-feasible) → length c.args.point.now.num ≡ length (player_of c.index-player.result.now).vars
+same_length : (c : After-feasible)
+    → length c.args.point.now.num ≡ length (player_of c.index-player.result.now).vars
 same_length c =
     let n = length-map c.index-player.result.now.vars.items var_of in
     omega
     (arith, n, c.if-len.false, c.len-2.ensures, c.len-3.ensures, c.index-player.result.now.vars.ok.0)
 
-bounded : (c : After-feasible) → IsBounded (player_of c.index-player.result.now) c.args.i (box_of c.args.path.now.leaves.items)
+bounded : (c : After-feasible)
+    → IsBounded (player_of c.index-player.result.now) c.args.i (box_of c.args.path.now.leaves.items)
 bounded c = rw c.deref.ensures.value at (c.if-not-is_bounded.ensures.0 refl)
 
 pub returns-in_err-feasible : goal.returns-in_err-feasible

@@ -14,7 +14,8 @@ use Rattle.zr_boxes.proofs.PathLaws.{frames_more, split_entered}
 use Rattle.zr_boxes.proofs.path.enter_split.Goals as goal
 use Rattle.zr_boxes.proofs.path.enter_split.Goals.{After-index-own, After-index_mut}
 
-is_player : (c : After-index-own) → IsPlayer (game_of c.args.game.now) c.args.i (player_of c.index-own.result.now)
+is_player : (c : After-index-own)
+    → IsPlayer (game_of c.args.game.now) c.args.i (player_of c.index-own.result.now)
 is_player c =
     found player_of c.args.game.now.players.items c.args.i c.index-own.result.now
     (read_below player_of c.args.game.now.players.items c.args.i

@@ -16,27 +16,33 @@ use Rattle.zr_boxes.proofs.PathLaws.{first_left, frames_less, frames_turned, is_
 use Rattle.zr_boxes.proofs.path.leave.Goals as goal
 use Rattle.zr_boxes.proofs.path.leave.Goals.{After-index, After-index-own, After-index_mut-leaf}
 
-nearest_is : (c : After-index) → get_or c.args.path.now.frames.items (c.args.path.now.depth - 1) (Second 0 0 None) ≡ c.index.result.now
+nearest_is : (c : After-index)
+    → get_or c.args.path.now.frames.items (c.args.path.now.depth - 1) (Second 0 0 None) ≡ c.index.result.now
 nearest_is c =
     let h : c.args.path.now.depth - 1 < length c.args.path.now.frames.items = omega
     (arith, c.requires.depth, c.requires.path.depth) in
     get_or_default c.args.path.now.frames.items (c.args.path.now.depth - 1) (Second 0 0 None)
     c.index.result.now h ∙ sym c.index.ensures
 
-top_frame : (c : After-index) (frame : Frame) → c.index.result.now ≡ frame → IsFrame (game_of c.args.game.now) frame
+top_frame : (c : After-index) (frame : Frame) → c.index.result.now ≡ frame
+    → IsFrame (game_of c.args.game.now) frame
 top_frame c frame is =
     is_frame (game_of c.args.game.now) c.args.path.now.frames.items c.args.path.now.depth frame
     c.requires.depth (nearest_is c ∙ is) c.requires.path.frames
 
 -- ---- from the first child to the second
 
-is_player : (c : After-index-own) → HasOwnVar (game_of c.args.game.now) c.in-First.player c.in-First.var → IsPlayer (game_of c.args.game.now) c.in-First.player (player_of c.index-own.result.now)
+is_player : (c : After-index-own)
+    → HasOwnVar (game_of c.args.game.now) c.in-First.player c.in-First.var
+    → IsPlayer (game_of c.args.game.now) c.in-First.player (player_of c.index-own.result.now)
 is_player c f =
     found player_of c.args.game.now.players.items c.in-First.player c.index-own.result.now
     (read_below player_of c.args.game.now.players.items c.in-First.player
     (slice_get_within (game_of c.args.game.now) c.in-First.player f.0 f.1)) c.index-own.ensures
 
-is_leaf : (c : After-index_mut-leaf) → IsPlayer (game_of c.args.game.now) c.in-First.player (player_of c.index-own.result.now) → IsLeafOf (player_of c.index-own.result.now) c.index_mut-leaf.result.now
+is_leaf : (c : After-index_mut-leaf)
+    → IsPlayer (game_of c.args.game.now) c.in-First.player (player_of c.index-own.result.now)
+    → IsLeafOf (player_of c.index-own.result.now) c.index_mut-leaf.result.now
 is_leaf c is =
     is_leaf_of (game_of c.args.game.now) c.args.path.now.leaves.items c.requires.path.fits
     c.in-First.player (player_of c.index-own.result.now) is c.index_mut-leaf.result.now

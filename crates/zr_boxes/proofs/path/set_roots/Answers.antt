@@ -9,7 +9,8 @@ use Rattle.zr_boxes.proofs.Starts.{all_started, one_started}
 use Rattle.zr_boxes.proofs.path.set_roots.Goals as goal
 use Rattle.zr_boxes.proofs.path.set_roots.Goals.{After-index}
 
-is_player : (c : After-index) → IsPlayer (game_of c.args.game.now) c.loop-i.i (player_of c.index.result.now)
+is_player : (c : After-index)
+    → IsPlayer (game_of c.args.game.now) c.loop-i.i (player_of c.index.result.now)
 is_player c =
     let n = leaf_count (game_of c.args.game.now) c.loop-i.leaves
     (c.loop-i.invariant.sizes ∙ c.requires) in
@@ -20,7 +21,8 @@ is_player c =
 pub set_root-requires : goal.set_root-requires
 set_root-requires c =
     let at = (goal.at.set_root-requires c).After-index in
-    let here : c.loop-i.i < length c.loop-i.leaves = omega (arith, c.loop-i-test.true, c.loop-i.auto.leaves) in
+    let here : c.loop-i.i < length c.loop-i.leaves =
+    omega (arith, c.loop-i-test.true, c.loop-i.auto.leaves) in
     let leaf = get_or c.loop-i.leaves c.loop-i.i c.index-leaves-i.result in
     is_leaf_of (game_of c.args.game.now) c.loop-i.leaves (c.loop-i.invariant.sizes ∙ c.requires)
     c.loop-i.i (player_of c.index.result.now) (is_player at) leaf
@@ -29,7 +31,8 @@ set_root-requires c =
 pub loop-i-preserved : goal.loop-i-preserved
 loop-i-preserved c =
     let at = (goal.at.loop-i-preserved c).After-index in
-    let here : c.loop-i.i < length c.loop-i.leaves = omega (arith, c.loop-i-test.true, c.loop-i.auto.leaves) in
+    let here : c.loop-i.i < length c.loop-i.leaves =
+    omega (arith, c.loop-i-test.true, c.loop-i.auto.leaves) in
     let leaf = get_or c.loop-i.leaves c.loop-i.i c.index-leaves-i.result in
     one_started (game_of c.args.game.now) c.args.leaves.now c.loop-i.leaves c.loop-i.i
     c.loop-i.invariant leaf c.set_root.new.leaf (player_of c.index.result.now) here

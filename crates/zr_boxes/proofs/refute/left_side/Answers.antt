@@ -9,9 +9,16 @@ use Rattle.zr_boxes.proofs.SumsOnward.{onward_more, onward_wide}
 use Rattle.zr_boxes.proofs.refute.left_side.Goals as goal
 use Rattle.zr_boxes.proofs.refute.left_side.Goals.{After-add_product}
 
-stepped : (c : After-add_product) → c.add_product.result ≡ sum_step (to_z w128 c.loop-slot.sum-bits) ((get_or c.args.mult.now c.loop-slot.slot-index (0, pos 0)).1, slot_coef (rows_at c.args.player.now c.args.leaf.now) (get_or c.args.mult.now c.loop-slot.slot-index (0, pos 0)).0 c.args.column)
+stepped : (c : After-add_product)
+    → c.add_product.result
+    ≡ sum_step (to_z w128 c.loop-slot.sum-bits) (
+      (get_or c.args.mult.now c.loop-slot.slot-index (0, pos 0)).1,
+      slot_coef (rows_at c.args.player.now c.args.leaf.now)
+          (get_or c.args.mult.now c.loop-slot.slot-index (0, pos 0)).0 c.args.column,
+    )
 stepped c =
-    let f : FitsSigned w128 (get_or c.args.mult.now c.loop-slot.slot-index (0, pos 0)).1 = search rules in
+    let f : FitsSigned w128 (get_or c.args.mult.now c.loop-slot.slot-index (0, pos 0)).1 =
+    search rules in
     let g : FitsSigned w128 c.slot_number-number.result = search rules in
     rw c.slot_number-number.ensures at
     (simp to_z-of_z at c.add_product.ensures.step)

@@ -19,7 +19,8 @@ returns-in_err-sum c =
       end_at c.args.end t.coef (range_of (box_of c.args.leaves.now) t.player t.var),
     )) c.args.start
     c.args.cross.now c.loop-term.term-index (record { own = 0; player = 0; var = 0; coef = pos 0 })
-    c.loop-term-test.true (to_z w128 c.loop-term.sum-bits) (simp to_z-of_z at c.loop-term.invariant) _ (sym c.in_err-sum.ensures.step)))
+    c.loop-term-test.true (to_z w128 c.loop-term.sum-bits)
+    (simp to_z-of_z at c.loop-term.invariant) _ (sym c.in_err-sum.ensures.step)))
 
 pub loop-term-preserved : goal.loop-term-preserved
 loop-term-preserved c =
@@ -31,5 +32,6 @@ loop-term-preserved c =
       end_at c.args.end t.coef (range_of (box_of c.args.leaves.now) t.player t.var),
     )) c.args.start
     c.args.cross.now c.loop-term.term-index (record { own = 0; player = 0; var = 0; coef = pos 0 })
-    c.loop-term-test.true (to_z w128 c.loop-term.sum-bits) (simp to_z-of_z at c.loop-term.invariant) c.in_ok-sum.sum
+    c.loop-term-test.true (to_z w128 c.loop-term.sum-bits)
+    (simp to_z-of_z at c.loop-term.invariant) c.in_ok-sum.sum
     (sym c.in_ok-sum.ensures.step) c.in_ok-sum.ensures.narrow)
