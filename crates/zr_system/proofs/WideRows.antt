@@ -37,11 +37,9 @@ module _ (game : GameOf) (leaves : LeavesOf) where
     i,
     n,
     get_or (named_at leaves i) n nothing,
-    u,
     h.0,
     got (named_at leaves i) n nothing h.1,
-    has,
-    e,
+    (u, has, e),
   )
   at_line (ALine.Weights i negated) u w h has e = absurd e
   at_line (ALine.Slot i k s negated) u w h has e = absurd e
@@ -76,21 +74,22 @@ module _ (game : GameOf) (leaves : LeavesOf) where
     wide_back w h =
         let i = h.0 in
         let n = h.1 in
-        let below = slice_get_within (named_at leaves i) n h.2 h.5 in
-        let s = named_stands game leaves path i n h.4 below in
-        let it = read (named_at leaves i) n nothing h.2 h.5 in
-        let here : IsWideAt game leaves (ALine.Named i n) h.3 w = subst
-        (λ (x : NamedOf). sum_steps (pos 0) (slope_products game leaves i x h.3) ≡ Err w)
-        (sym it) h.7 in (
+        let u = h.5.0 in
+        let below = slice_get_within (named_at leaves i) n h.2 h.4 in
+        let s = named_stands game leaves path i n h.3 below in
+        let it = read (named_at leaves i) n nothing h.2 h.4 in
+        let here : IsWideAt game leaves (ALine.Named i n) u w = subst
+        (λ (x : NamedOf). sum_steps (pos 0) (slope_products game leaves i x u) ≡ Err w)
+        (sym it) h.5.2 in (
           s.0,
           s.1,
           subst (λ (line : Line). HasWideNumber game leaves (columns game leaves) line w)
               (sym s.2) (⊎_elim (λ (c : (j : ℕ) × (j < length (columns game leaves))
-              × (get_or (columns game leaves) j One ≡ h.3)). inl (
+              × (get_or (columns game leaves) j One ≡ u)). inl (
                 c.0,
                 c.1,
                 subst (λ (u : Unknown). IsWideAt game leaves (ALine.Named i n) u w)
                     (sym c.2) here,
-              )) (λ (e : h.3 ≡ One). inr
-              (subst (λ (u : Unknown). IsWideAt game leaves (ALine.Named i n) u w) e here)) h.6),
+              )) (λ (e : u ≡ One). inr
+              (subst (λ (u : Unknown). IsWideAt game leaves (ALine.Named i n) u w) e here)) h.5.1),
         )

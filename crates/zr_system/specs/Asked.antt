@@ -99,13 +99,22 @@ HasNumbers game leaves u =
     ((j : ℕ) × (j < length (columns game leaves))
     × (slice_index_or (columns game leaves) j One ≡ u)) ⊎ (u ≡ One)
 
--- w is the first step that is too wide in such a sum; all other numbers of the system are numbers
--- of the game, the leaves and the cuts
+-- w is the first step that is too wide in such a sum of the item's row
+abbrev pub HasWideItem : GameOf → LeavesOf → ℕ → NamedOf → Wide → Type 0
+HasWideItem game leaves i item w =
+    (u : Unknown) × HasNumbers game leaves u
+    × (sum_steps (pos 0) (slope_products game leaves i item u) ≡ Err w)
+
+-- and that in the row of some named item; all other numbers of the system are numbers of the game,
+-- the leaves and the cuts
 abbrev pub HasWideCoefficient : GameOf → LeavesOf → Wide → Type 0
 HasWideCoefficient game leaves w =
-    (i n : ℕ) × (item : NamedOf) × (u : Unknown) × (i < length game)
-    × (slice_get (named_at leaves i) n ≡ Some item) × HasNumbers game leaves u
-    × (sum_steps (pos 0) (slope_products game leaves i item u) ≡ Err w)
+    (i n : ℕ) × (item : NamedOf) × (i < length game)
+    × (slice_get (named_at leaves i) n ≡ Some item) × HasWideItem game leaves i item w
+
+-- each player has a leaf
+abbrev pub HaveLeaves : GameOf → LeavesOf → Type 0
+HaveLeaves game leaves = (i : ℕ) → i < length game → 0 < leaf_count leaves i
 
 -- what the row speaks of exists
 abbrev pub LineExists : GameOf → LeavesOf → Line → Type 0

@@ -155,7 +155,13 @@ fn along_step(
 }
 
 /// The sum over the variables of the slope's number times the item's.
-fn along_number(game: &Game, i: usize, vars: usize, item: &Named, u: Unknown) -> Result<i128, Wide>
+pub(crate) fn along_number(
+    game: &Game,
+    i: usize,
+    vars: usize,
+    item: &Named,
+    u: Unknown,
+) -> Result<i128, Wide>
     requires player { i < length (game_of game.now) }
     requires item { IsNamedForm vars (named_of item.now) }
     ensures steps { result ≡ sum_steps (pos 0)

@@ -1,0 +1,14 @@
+use Rattle.std.proofs.Common.{◌≡◌, ℕ, ◌<◌, pos, Err}
+use Rattle.zr_base.specs.declared.step.Wide.{Wide}
+use Rattle.zr_base.specs.Sums.{sum_steps}
+use Rattle.zr_game.specs.Games.{game_of}
+use Rattle.zr_game.specs.Named.{named_of}
+use Rattle.zr_system.specs.declared.unknown.Unknown.TheVariants.{Share}
+use Rattle.zr_system.specs.Regions.{var_count}
+use Rattle.zr_system.specs.Values.{along_products}
+use Rattle.zr_system.proofs.narrow.share_sums.Given as goal
+
+abbrev pub invariant-loop-v : goal.invariant-loop-v
+invariant-loop-v l =
+    (v : ℕ) (w : Wide) → v < l.v → sum_steps (pos 0) (along_products (game_of l.game) l.i
+    (named_of l.item) (Share l.j 0 v) (var_count (game_of l.game) l.i)) ≡ Err w → ⊥
