@@ -13,3 +13,4 @@ pub mod CoveredLeaves
 pub mod Flagging
 pub mod Covering
 pub mod Assembled
+pub mod AlikeCases

@@ -20,7 +20,7 @@ trees_to zero f = []
 trees_to (suc n) f = f 0 ∷ trees_to n (λ k. f (suc k))
 
 -- how many leaves a player has, by the list of these numbers
-count_is : (regions : List (List RegionOf)) (i : ℕ)
+pub count_is : (regions : List (List RegionOf)) (i : ℕ)
     → slice_index_or (map (λ list. length list) regions) i 0 ≡ length (slice_index_or regions i [])
 count_is [] i = refl
 count_is (r ∷ rs) zero = refl
