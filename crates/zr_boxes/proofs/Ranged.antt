@@ -1,11 +1,11 @@
 -- Fractions within ranges, and what their sums and products are within.
-use Rattle.std.proofs.Common.{◌≡◌, arith, refl, ℤ, pos, negsuc, neg_ℤ, ◌+ℤ◌, ◌*ℤ◌, ◌≤ℤ◌, ◌<ℤ◌, Bool, true, false, List, [], ◌∷◌, map, int_lt, ◌⊎◌, ⊎_elim, inl, inr}
+use Rattle.std.proofs.Common.{◌≡◌, ◌∙◌, arith, refl, sym, ℤ, pos, negsuc, neg_ℤ, ◌+ℤ◌, ◌*ℤ◌, ◌≤ℤ◌, ◌<ℤ◌, Bool, true, false, List, [], ◌∷◌, map, int_lt, ◌⊎◌, ⊎_elim, inl, inr}
 use Rattle.std.proofs.Math.IntN.{*ℤ_comm}
 use Rattle.std.proofs.lemmas.Int.{ints}
 use Rattle.zr_base.specs.Fractions.{Fraction, plus, sum_over, times, whole}
 use Rattle.zr_base.specs.Sums.{sum_products}
 use Rattle.zr_base.proofs.Divisors.{mul_positive}
-use Rattle.zr_base.proofs.Ring.{le-mul_right, mul_assoc, neg-mul_left, spread}
+use Rattle.zr_base.proofs.Ring.{le-mul_right, lt-mul_right, mul_assoc, neg-mul_left, spread}
 use Rattle.zr_base.proofs.Worth.{Each, le_times}
 use Rattle.zr_boxes.specs.declared.range.Range.{Range}
 use Rattle.zr_boxes.specs.declared.range.End.TheVariants.{Least, Greatest}
@@ -59,39 +59,112 @@ either_sign a = which (int_lt a (pos 0)) refl
     which true e = inl (omega (arith, ints, e), e)
     which false e = inr (omega (arith, ints, e), e)
 
+-- strict order is kept and turned likewise
+keeps_less : (a x y : ℤ) → (pos 0) <ℤ a → x <ℤ y → (a *ℤ x) <ℤ (a *ℤ y)
+keeps_less (pos n) x y h o =
+    let e = lt-mul_right x y n (omega (arith, ints, h)) o in
+    rw (*ℤ_comm (pos n) x, *ℤ_comm (pos n) y) e
+keeps_less (negsuc n) x y h o = absurd (omega (arith, ints, h))
+
+turns_less : (a x y : ℤ) → a <ℤ (pos 0) → x <ℤ y → (a *ℤ y) <ℤ (a *ℤ x)
+turns_less a x y h o =
+    let k = keeps_less (neg_ℤ a) x y (omega (arith, ints, h)) o in
+    let l = neg-mul_left a x in
+    let r = neg-mul_left a y in
+    omega (arith, ints, k, l, r)
+
+is_less : (x y : ℤ) → x <ℤ y → int_lt x y ≡ true
+is_less x y h = which (int_lt x y) refl
+  where
+    which : (t : Bool) → int_lt x y ≡ t → int_lt x y ≡ true
+    which true e = e
+    which false e = absurd (omega (arith, ints, e, h))
+
+not_less : (x y : ℤ) → y ≤ℤ x → int_lt x y ≡ false
+not_less x y h = which (int_lt x y) refl
+  where
+    which : (t : Bool) → int_lt x y ≡ t → int_lt x y ≡ false
+    which true e = absurd (omega (arith, ints, e, h))
+    which false e = e
+
+-- products with one number are compared without being made
+pub less_below : (a x y : ℤ) → a <ℤ (pos 0) → int_lt y x ≡ int_lt (a *ℤ x) (a *ℤ y)
+less_below a x y h = which (int_lt y x) refl
+  where
+    which : (t : Bool) → int_lt y x ≡ t → int_lt y x ≡ int_lt (a *ℤ x) (a *ℤ y)
+    which true e =
+        e ∙ sym (is_less (a *ℤ x) (a *ℤ y) (turns_less a y x h (omega (arith, ints, e))))
+    which false e =
+        e ∙ sym (not_less (a *ℤ x) (a *ℤ y) (turns_order a x y h (omega (arith, ints, e))))
+
+pub less_zero : (a x y : ℤ) → a ≡ pos 0 → false ≡ int_lt (a *ℤ x) (a *ℤ y)
+less_zero a x y h =
+    rw h (sym (not_less (pos 0 *ℤ x) (pos 0 *ℤ y) (omega (arith, ints))))
+
+pub less_above : (a x y : ℤ) → (pos 0) <ℤ a → int_lt x y ≡ int_lt (a *ℤ x) (a *ℤ y)
+less_above a x y h = which (int_lt x y) refl
+  where
+    which : (t : Bool) → int_lt x y ≡ t → int_lt x y ≡ int_lt (a *ℤ x) (a *ℤ y)
+    which true e =
+        e ∙ sym (is_less (a *ℤ x) (a *ℤ y) (keeps_less a x y h (omega (arith, ints, e))))
+    which false e =
+        e ∙ sym (not_less (a *ℤ x) (a *ℤ y)
+        (keeps_order a y x (omega (arith, ints, h)) (omega (arith, ints, e))))
+
+-- the multiple at the chosen end is at most, or at least, that at each end
+end_least : (a : ℤ) (r : Range) → ((a *ℤ end_at Least a r) ≤ℤ (a *ℤ r.low))
+    × ((a *ℤ end_at Least a r) ≤ℤ (a *ℤ r.high))
+end_least a r = which (int_lt (a *ℤ r.high) (a *ℤ r.low)) refl
+  where
+    which : (t : Bool) → int_lt (a *ℤ r.high) (a *ℤ r.low) ≡ t
+        → ((a *ℤ end_at Least a r) ≤ℤ (a *ℤ r.low)) × ((a *ℤ end_at Least a r) ≤ℤ (a *ℤ r.high))
+    which true e = rw e (omega (arith, ints, e), omega (arith, ints))
+    which false e = rw e (omega (arith, ints), omega (arith, ints, e))
+
+end_greatest : (a : ℤ) (r : Range) → ((a *ℤ r.low) ≤ℤ (a *ℤ end_at Greatest a r))
+    × ((a *ℤ r.high) ≤ℤ (a *ℤ end_at Greatest a r))
+end_greatest a r = which (int_lt (a *ℤ r.low) (a *ℤ r.high)) refl
+  where
+    which : (t : Bool) → int_lt (a *ℤ r.low) (a *ℤ r.high) ≡ t
+        → ((a *ℤ r.low) ≤ℤ (a *ℤ end_at Greatest a r))
+        × ((a *ℤ r.high) ≤ℤ (a *ℤ end_at Greatest a r))
+    which true e = rw e (omega (arith, ints, e), omega (arith, ints))
+    which false e = rw e (omega (arith, ints), omega (arith, ints, e))
+
 -- a multiple of a value in a range is from its least to its greatest
 pub from_multiple : (a : ℤ) (r : Range) (f : Fraction) → IsFrom r.low r.high f
     → IsFrom (a *ℤ end_at Least a r) (a *ℤ end_at Greatest a r) (times (whole a) f)
 from_multiple a r f p =
-    ⊎_elim (λ (s : (a <ℤ (pos 0)) × (int_lt a (pos 0) ≡ true)). rw s.1 (below_zero s.0))
-    (λ (s : ((pos 0) ≤ℤ a) × (int_lt a (pos 0) ≡ false)). rw s.1 (above_zero s.0)) (either_sign a)
+    within (a *ℤ end_at Least a r) (a *ℤ end_at Greatest a r) (end_least a r) (end_greatest a r)
   where
     one : pos 1 *ℤ f.den ≡ f.den
     one = omega (arith, ints)
 
-    below_zero : a <ℤ (pos 0) → IsFrom (a *ℤ r.high) (a *ℤ r.low) (times (whole a) f)
-    below_zero h =
-        let l = turns_order a f.num (r.high *ℤ f.den) h p.high in
-        let g = turns_order a (r.low *ℤ f.den) f.num h p.low in
-        let u = mul_assoc a r.high f.den in
-        let w = mul_assoc a r.low f.den in
-        record {
-          below = rw one p.below;
-          low = rw one (omega (arith, ints, l, u));
-          high = rw one (omega (arith, ints, g, w));
-        }
-
-    above_zero : (pos 0) ≤ℤ a → IsFrom (a *ℤ r.low) (a *ℤ r.high) (times (whole a) f)
-    above_zero h =
-        let l = keeps_order a (r.low *ℤ f.den) f.num h p.low in
-        let g = keeps_order a f.num (r.high *ℤ f.den) h p.high in
+    within : (l g : ℤ) → (l ≤ℤ (a *ℤ r.low)) × (l ≤ℤ (a *ℤ r.high))
+        → ((a *ℤ r.low) ≤ℤ g) × ((a *ℤ r.high) ≤ℤ g) → IsFrom l g (times (whole a) f)
+    within l g least greatest =
         let u = mul_assoc a r.low f.den in
         let w = mul_assoc a r.high f.den in
+        let ll = le_times l (a *ℤ r.low) f.den p.below least.0 in
+        let lh = le_times l (a *ℤ r.high) f.den p.below least.1 in
+        let gl = le_times (a *ℤ r.low) g f.den p.below greatest.0 in
+        let gh = le_times (a *ℤ r.high) g f.den p.below greatest.1 in
+        ⊎_elim (λ (s : (a <ℤ (pos 0)) × (int_lt a (pos 0) ≡ true)).
+        let low = turns_order a f.num (r.high *ℤ f.den) s.0 p.high in
+        let high = turns_order a (r.low *ℤ f.den) f.num s.0 p.low in
         record {
           below = rw one p.below;
-          low = rw one (omega (arith, ints, l, u));
-          high = rw one (omega (arith, ints, g, w));
-        }
+          low = rw one (omega (arith, ints, low, lh, w));
+          high = rw one (omega (arith, ints, high, gl, u));
+        })
+        (λ (s : ((pos 0) ≤ℤ a) × (int_lt a (pos 0) ≡ false)).
+        let low = keeps_order a (r.low *ℤ f.den) f.num s.0 p.low in
+        let high = keeps_order a f.num (r.high *ℤ f.den) s.0 p.high in
+        record {
+          below = rw one p.below;
+          low = rw one (omega (arith, ints, low, ll, u));
+          high = rw one (omega (arith, ints, high, gh, w));
+        }) (either_sign a)
 
 -- the sum of multiples of values in ranges
 pub from_sum : {A : Type 0} (P : A → Type 0) (coef : A → ℤ) (range : A → Range) (f : A → Fraction)

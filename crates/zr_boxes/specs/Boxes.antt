@@ -9,7 +9,8 @@ use Rattle.zr_game.specs.Feasible.{IsFeasible}
 use Rattle.zr_game.specs.Forms.{IsPlayer}
 use Rattle.zr_game.specs.Leaves.{LeafOf, MeetsLeaf, above, below, root_leaf}
 
--- a leaf for each player, by its number: the bounds of the player's variables, every pair undecided
+-- a leaf for each player, by its number; in the box of all profiles, and where it is cut, every pair
+-- is undecided
 abbrev pub BoxOf : Type 0
 BoxOf = ℕ → LeafOf
 

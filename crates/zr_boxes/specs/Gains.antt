@@ -1,4 +1,4 @@
--- What a player gains at least by playing a point, whatever is played in a box.
+-- The least gain of a player by playing a point against a box: a sum of products of ends of ranges.
 use Rattle.std.specs.Prelude.{ℕ, ◌==◌, ℤ, pos, ◌+ℤ◌, Bool, ◌||◌, List, length, map, if◌then◌else◌}
 use Rattle.std.specs.List.{All, filter, list_any}
 use Rattle.zr_base.specs.Sums.{sum_products, sum_to}
@@ -45,13 +45,13 @@ slope_range player box v = record {
 abbrev pub way_range : ℕ → BoxOf → PointOf → ℕ → Range
 way_range i box x v = shifted x.den (num_of x v) (range_of box i v)
 
--- what v adds to the gain at least
+-- the part of variable v in the least gain: the least product of how far v is from the point and of
+-- the slope along v; nothing where v doesn't count
 abbrev pub var_gain : PlayerOf → ℕ → BoxOf → PointOf → ℕ → ℤ
 var_gain player i box x v =
     if counts player v then least_product (way_range i box x v) (slope_range player box v)
     else pos 0
 
--- a lower bound, in the box, of the cost of player i less its cost at the point, times the point's
--- denominator
+-- the sum of the variables' parts
 abbrev pub least_gain : PlayerOf → ℕ → BoxOf → PointOf → ℤ
 least_gain player i box x = sum_to (length player.vars) (var_gain player i box x)

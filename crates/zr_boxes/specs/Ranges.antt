@@ -22,10 +22,11 @@ range_of box i v = record {
 abbrev pub shifted : ℤ → ℤ → Range → Range
 shifted d p r = record { low = d *ℤ r.low -ℤ p; high = d *ℤ r.high -ℤ p }
 
--- the end of the range at which a times x is least, or greatest
+-- of the two ends of the range the one at which a times x is least, or greatest; in a box without
+-- profiles the lower bound may be above the upper one
 abbrev pub end_at : End → ℤ → Range → ℤ
-end_at Least a r = if int_lt a (pos 0) then r.high else r.low
-end_at Greatest a r = if int_lt a (pos 0) then r.low else r.high
+end_at Least a r = if int_lt (a *ℤ r.high) (a *ℤ r.low) then r.high else r.low
+end_at Greatest a r = if int_lt (a *ℤ r.low) (a *ℤ r.high) then r.high else r.low
 
 -- the lesser of two numbers
 abbrev pub lesser_of : ℤ → ℤ → ℤ

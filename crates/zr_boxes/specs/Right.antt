@@ -20,7 +20,8 @@ abbrev pub IsEmptied : GameOf → BoxOf → ℕ → Multipliers → Type 0
 IsEmptied game box i mult =
     (player : PlayerOf) × IsPlayer game i player × IsRefutation player (box i) (pos 0) mult
 
--- the point is one of the player, and pays less than any profile of the box
+-- the point is one of the player, the bounds that its least gain needs are there, and the gain is
+-- above zero
 pub record IsBetter (player : PlayerOf) (i : ℕ) (box : BoxOf) (x : PointOf) : Type 0 where
   pub feasible : IsFeasible player x
   pub bounded : IsBounded player i box

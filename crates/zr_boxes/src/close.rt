@@ -50,7 +50,7 @@ fn empties(game: &Game, path: &Path, i: u32, mult: &[(u32, i128)]) -> Result<boo
     refutes(&game.players[i], &path.leaves[i], mult)
 }
 
-/// Whether the point is one of player `i`, and pays less than any profile of the box.
+/// Whether the point is one of player `i`, and its least gain in the box is above zero.
 ///
 /// Where there is no such player, the point has another number of variables, or a bound that the
 /// gain needs isn't there, no sum is made. Else those of the point's test and of the gain are made;

@@ -10,9 +10,10 @@ use crate::slope::{counts, slope_range};
 use zr_base::{Point, Wide, add_product};
 use zr_game::{Leaf, Player};
 
-/// A lower bound, in the box, of what player `i` gains by playing the point, times the point's
-/// denominator. The point has a number for each of its variables, and the bounds that the gain
-/// needs are there.
+/// The least gain of player `i` by playing the point against the box: the sum over its variables
+/// that count of the least product of an end of the way to the point, times the point's
+/// denominator, and an end of the slope. The point has a number for each of its variables; 0 stands
+/// for a bound that isn't there.
 pub(crate) fn least_gain(
     player: &Player,
     i: u32,
@@ -52,7 +53,7 @@ fn with_var(
     add_product(gain, least, 1)
 }
 
-/// What variable `v` adds at least.
+/// The part of variable `v` in the least gain.
 fn var_gain(player: &Player, i: u32, leaves: &[Leaf], point: &Point, v: usize) -> Result<i128, Wide>
     requires { v < length point.now.num }
     ensures { result ≡ var_steps (player_of player.now) i (box_of leaves.now) point.now v }

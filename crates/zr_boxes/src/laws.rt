@@ -28,8 +28,8 @@ pub fn law_of_passing_boxes()
         → IsRefusedBox game k box t f → IsRefusedBox game k box t g → f ≡ g }
 {}
 
-/// Where the least gain of a feasible point is above zero in a box, the player pays less at this
-/// point than at its own one, whatever the profile of the box.
+/// Where the least gain of a feasible point is above zero in a box, all bounds that it needs being
+/// there, the player pays less at this point than at its own one, whatever the profile of the box.
 pub fn law_of_gains()
     ensures { (game : GameOf) → IsGame game
         → (box : BoxOf) (points : List PointOf) → IsInBox game box points

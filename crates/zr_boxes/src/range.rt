@@ -1,4 +1,4 @@
-ghost use Rattle.std.specs.Prelude.{◌≡◌, pos, neg_ℤ};
+ghost use Rattle.std.specs.Prelude.{◌≡◌, ◌*ℤ◌, int_lt, pos, neg_ℤ};
 ghost use Rattle.zr_base.specs.Steps.{IsNarrow, cross_of};
 ghost use Rattle.zr_base.specs.Sums.{sum_step};
 ghost use Rattle.zr_boxes.specs.GainSteps.{product_steps, way_range_steps};
@@ -6,7 +6,7 @@ ghost use Rattle.zr_boxes.specs.Ranges.{end_at as end_in, lesser_of};
 
 use zr_base::{Wide, add_product, cross};
 
-/// The numbers from `low` to `high`.
+/// The numbers from `low` to `high`; none where `low` is above `high`.
 #[derive(Clone, Copy)]
 pub(crate) struct Range {
     pub(crate) low: i128,
@@ -20,14 +20,32 @@ pub(crate) enum End {
     Greatest,
 }
 
-/// The end of the range at which `number` times a value is least, or greatest.
+/// Of the two ends of the range the one at which `number` times it is least, or greatest.
 pub(crate) fn end_at(end: End, number: i64, range: Range) -> i128
     ensures { result ≡ end_in end number range }
 {
     match end {
-        End::Least => if number < 0 { range.high } else { range.low },
-        End::Greatest => if number < 0 { range.low } else { range.high },
+        End::Least => if is_less_times(number, range.high, range.low) {
+            range.high
+        } else {
+            range.low
+        },
+        End::Greatest => if is_less_times(number, range.low, range.high) {
+            range.high
+        } else {
+            range.low
+        },
     }
+}
+
+/// Whether `number` times `a` is less than `number` times `b`. No product is made.
+fn is_less_times(number: i64, a: i128, b: i128) -> bool
+    ensures { result ≡ int_lt (number *ℤ a) (number *ℤ b) }
+{
+    if number < 0 {
+        return a > b;
+    }
+    number > 0 && a < b
 }
 
 /// Where x runs over the range, the ends of `den * x - num`.
