@@ -5,9 +5,9 @@ Usage: worst_texts.py PROGRAM
 
 Each text has the length that a game text may have, 8,388,608 bytes, with spaces at its end where
 its kind allows no more, and must be answered within two seconds and 1 GiB. The first column `MiB`
-is its length without these spaces. Two kinds may take more memory: `serde_json` keeps an object as
-a map that takes some 800 bytes however few members it has, so that a text of nothing but objects
-that have no meaning takes up to 1.4 GiB.
+is its length without these spaces. The three kinds of objects may take more memory, 1.5 GiB:
+`serde_json` keeps an object as a map that takes some 800 bytes however few members it has, so that
+a text of nothing but objects that have no meaning takes up to 1.4 GiB.
 
 The certificate of `check` is one word, so that `check` reads the game whole and then refuses the
 certificate: its status is 6 where the text stands for a game. The exit status is 0 where the status
@@ -51,6 +51,25 @@ def padded(text):
 def many_variables():
     """One player with 250,000 variables; Count stands at its list."""
     return game([{"name": "A", "vars": [{"name": f"x{i}", "up": 1} for i in range(250_000)]}])
+
+
+def many_names():
+    """A follower with as many variables as there may be; Count stands at the leader's followers."""
+    def names():
+        for length in range(1, 6):
+            for letters in itertools.product(NAMES[:63], repeat=length):
+                yield "".join(letters)
+    leader = '{"name":"A","vars":[{"name":"leader"}],"followers":[{"vars":["'
+    head = '{"format":"zero-game/1","players":[' + leader
+    tail = '"]}]}]}'
+    room = LIMIT - len(head) - len(tail)
+    kept = []
+    for name in names():
+        room -= len(name) + 3
+        if room < 0:
+            break
+        kept.append(name)
+    return head + '","'.join(kept) + tail
 
 
 def full_players():
@@ -103,6 +122,7 @@ def filled(item):
 
 KINDS = [
     ("250,000 variables", many_variables, 5, MOST_BYTES),
+    ("1,200,000 variables of a follower", many_names, 5, MOST_BYTES),
     ("rows and pairs of 16 full players", full_players, None, MOST_BYTES),
     ("61,440 cross terms of 8 players", cross_terms, None, MOST_BYTES),
     ("65,536 cross terms, some again", repeated_cross_terms, 5, MOST_BYTES),
