@@ -158,13 +158,19 @@ module _ (leaves : LeavesOf) where
     pub wide_alike : (wide : EndRule) (path : List Choice) (s t : CasesOf) → Alike s t
         → HasWideBy wide game leaves kind path s → HasWideBy wide game leaves kind path t
     wide_alike wide path (OnOff i k a b) (OnOff j l c d) e h =
-        rw (sym e.0, sym e.1) (h.0, ⊎_elim
-        (λ u. inl (wide_alike wide (then_choice path (AChoice.On i k)) a c e.2 u))
-        (λ u. inr (wide_alike wide (then_choice path (AChoice.Off i k)) b d e.3 u)) h.1)
+        rw (sym e.0, sym e.1) (
+          h.0,
+          ⊎_elim
+              (λ u. inl (wide_alike wide (then_choice path (AChoice.On i k)) a c e.2 u))
+              (λ u. inr (wide_alike wide (then_choice path (AChoice.Off i k)) b d e.3 u)) h.1,
+        )
     wide_alike wide path (RowSplit i k x a b) (RowSplit j l y c d) e h =
-        rw (sym e.0, sym e.1, sym e.2) (h.0, ⊎_elim
-        (λ u. inl (wide_alike wide (then_choice path (AChoice.Zero i k x)) a c e.3 u))
-        (λ u. inr (wide_alike wide (then_choice path (AChoice.Tight i k x)) b d e.4 u)) h.1)
+        rw (sym e.0, sym e.1, sym e.2) (
+          h.0,
+          ⊎_elim
+              (λ u. inl (wide_alike wide (then_choice path (AChoice.Zero i k x)) a c e.3 u))
+              (λ u. inr (wide_alike wide (then_choice path (AChoice.Tight i k x)) b d e.4 u)) h.1,
+        )
     wide_alike wide path (Which i f) (Which j g) e h =
         let u = h.1 in
         rw (sym e.0) (h.0, (u.0, u.1, wide_alike wide (then_choice path (AChoice.Which i u.0)) (f u.0) (g u.0) (e.1 u.0 u.1) u.2))
@@ -191,24 +197,36 @@ module _ (leaves : LeavesOf) where
         let z = same_size a c e.2 in
         rw (sym e.0, sym e.1) (⊎_elim (λ u. inl u) (λ u. inr (⊎_elim
         (λ v. inl (v.0, refused_alike right wide (n + 1) on a c fault e.2 v.1))
-        (λ v. inr (v.0, refutes_alike (EndPasses right wide) on a c e.2 v.1,
-        subst (λ m. RefusedBy right wide game leaves kind (n + 1 + m) off d fault) z
-        (refused_alike right wide (n + 1 + size leaves a) off b d fault e.3 v.2))) u)) h)
+        (λ v. inr (
+          v.0,
+          refutes_alike (EndPasses right wide) on a c e.2 v.1,
+          subst (λ m. RefusedBy right wide game leaves kind (n + 1 + m) off d fault) z
+              (refused_alike right wide (n + 1 + size leaves a) off b d fault e.3 v.2),
+        )) u)) h)
     refused_alike right wide n path (RowSplit i k x a b) (RowSplit j l y c d) fault e h =
         let at_zero = then_choice path (AChoice.Zero i k x) in
         let tight = then_choice path (AChoice.Tight i k x) in
         let z = same_size a c e.3 in
         rw (sym e.0, sym e.1, sym e.2) (⊎_elim (λ u. inl u) (λ u. inr (⊎_elim
         (λ v. inl (v.0, refused_alike right wide (n + 1) at_zero a c fault e.3 v.1))
-        (λ v. inr (v.0, refutes_alike (EndPasses right wide) at_zero a c e.3 v.1,
-        subst (λ m. RefusedBy right wide game leaves kind (n + 1 + m) tight d fault) z
-        (refused_alike right wide (n + 1 + size leaves a) tight b d fault e.4 v.2))) u)) h)
+        (λ v. inr (
+          v.0,
+          refutes_alike (EndPasses right wide) at_zero a c e.3 v.1,
+          subst (λ m. RefusedBy right wide game leaves kind (n + 1 + m) tight d fault) z
+              (refused_alike right wide (n + 1 + size leaves a) tight b d fault e.4 v.2),
+        )) u)) h)
     refused_alike right wide n path (Which i f) (Which j g) fault e h =
-        rw (sym e.0) (⊎_elim (λ u. inl u) (λ u. inr (u.0, (let v = u.1 in (v.0, v.1,
-        λ l before. refutes_alike (EndPasses right wide) (then_choice path (AChoice.Which i l)) (f l) (g l) (e.1 l (let b = v.1 in omega (arith, before, b))) (v.2 l before),
-        subst (λ m. RefusedBy right wide game leaves kind (n + 1 + m) (then_choice path (AChoice.Which i v.0)) (g v.0) fault)
-        (same_sizes v.0 f g (λ l before. e.1 l (let b = v.1 in omega (arith, before, b))))
-        (refused_alike right wide (n + 1 + sizes leaves f v.0) (then_choice path (AChoice.Which i v.0)) (f v.0) (g v.0) fault (e.1 v.0 v.1) v.3))))) h)
+        rw (sym e.0) (⊎_elim (λ u. inl u) (λ u. inr (
+          u.0,
+          (let v = u.1 in (
+            v.0,
+            v.1,
+            λ l before. refutes_alike (EndPasses right wide) (then_choice path (AChoice.Which i l)) (f l) (g l) (e.1 l (let b = v.1 in omega (arith, before, b))) (v.2 l before),
+            subst (λ m. RefusedBy right wide game leaves kind (n + 1 + m) (then_choice path (AChoice.Which i v.0)) (g v.0) fault)
+                (same_sizes v.0 f g (λ l before. e.1 l (let b = v.1 in omega (arith, before, b))))
+                (refused_alike right wide (n + 1 + sizes leaves f v.0) (then_choice path (AChoice.Which i v.0)) (f v.0) (g v.0) fault (e.1 v.0 v.1) v.3),
+          )),
+        )) h)
     refused_alike right wide n path (Close m) (Close o) fault e h =
         subst (λ mult. RefusedBy right wide game leaves kind n path (Close mult) fault) e h
     refused_alike right wide n path (OnOff i k a b) (RowSplit j l s c d) fault e h = absurd e
