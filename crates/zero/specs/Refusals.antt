@@ -8,6 +8,8 @@ use Rattle.zero.specs.declared.refusal.Refusal.TheVariants.{Usage, CannotRead, T
 use Rattle.zero.specs.declared.text.Text.{Text}
 use Rattle.zero.specs.declared.text.Text.TheVariants.{Game, Cert}
 use Rattle.zr_words.specs.Words.{Words}
+use Rattle.zr_words.specs.declared.reading.Refused.{Refused}
+use Rattle.zr_words.specs.declared.reading.Refused.TheVariants as words
 use Rattle.zr_words.specs.Commands.{AreOfNoAction, IsMisspelt}
 use Rattle.zero.specs.Commands.{IsGameName, IsUnbuiltCommand}
 use Rattle.zero.specs.Reads.{IsDue, IsLastTake, IsLong}
@@ -101,6 +103,12 @@ pub record Keeps {S T : Type 0} (contents_of : S → Contents) (faults_of : S �
 abbrev pub ComesOfWords : Words → Refusal → Type 0
 ComesOfWords words refusal = (refusal ≡ NoMemory)
     ⊎ ((help : Option (String Global)) × (refusal ≡ Usage help) × IsHelp words help)
+
+-- the refusal of words that are read so: a text of `clap` is held as it is
+abbrev pub refusal_for : Refused → Refusal
+refusal_for (words.Form text) = Usage (Some text)
+refusal_for words.Action = Usage None
+refusal_for words.NoMemory = NoMemory
 
 -- a refusal that comes of a text that was taken
 pub record ComesOf (text : Text) (refusal : Refusal) : Type 0 where

@@ -1,12 +1,13 @@
 ghost use Rattle.std.specs.Prelude.{◌≡◌, ◌≢◌, IfOk, IfErr, IsErrAnd};
 ghost use Rattle.zr_io.specs.Contents.{Bytes};
-ghost use Rattle.zr_words.specs.Words.{spelled};
+ghost use Rattle.zr_words.specs.Words.{Words, spelled};
 ghost use Rattle.zr_words.specs.Commands.{Asks};
+ghost use Rattle.zr_words.specs.Matches.{IsRefusal};
 ghost use Rattle.zr_words.specs.declared.command.Command.{Command as CommandView};
 ghost use Rattle.zero.specs.Commands.{IsGameName, IsUnbuiltCommand};
 ghost use Rattle.zero.specs.Answers.{IsAnswer};
 ghost use Rattle.zero.specs.Reads.{Lacks};
-ghost use Rattle.zero.specs.Refusals.{ComesOfWords, HasTaken, IsCause, Keeps, status_of};
+ghost use Rattle.zero.specs.Refusals.{ComesOfWords, HasTaken, IsCause, Keeps, refusal_for, status_of};
 ghost use Rattle.zero.specs.Told.{IsStatus};
 
 use crate::check::check;
@@ -52,8 +53,18 @@ fn command_of<'w>(alloc: Global, words: &'w [String]) -> Result<Command<'w>, Ref
 {
     match read_words(alloc, words) {
         Ok(command) => Ok(command),
-        Err(Refused::Form { text }) => Err(Refusal::Usage { help: Some(text) }),
-        Err(Refused::Action) => Err(Refusal::Usage { help: None }),
-        Err(Refused::NoMemory) => Err(Refusal::NoMemory),
+        Err(refused) => Err(refusal_of(refused)),
+    }
+}
+
+/// The refusal of words that ask for nothing. It holds the text of `clap` that goes with them.
+fn refusal_of<'w>(refused: Refused) -> Refusal<'w>
+    ensures same { result ≡ refusal_for refused }
+    ensures cause { (words : Words) → IsRefusal words refused → ComesOfWords words result }
+{
+    match refused {
+        Refused::Form { text } => Refusal::Usage { help: Some(text) },
+        Refused::Action => Refusal::Usage { help: None },
+        Refused::NoMemory => Refusal::NoMemory,
     }
 }
