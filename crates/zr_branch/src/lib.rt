@@ -9,6 +9,8 @@ mod part;
 mod program;
 mod reply;
 mod row;
+#[cfg(test)]
+mod tests;
 mod value;
 
 pub use asking::ask;

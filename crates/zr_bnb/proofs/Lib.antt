@@ -1,0 +1,10 @@
+pub mod Firsts
+pub mod Floors
+pub mod Apart
+pub mod Directions
+pub mod Along
+pub mod Visiting
+pub mod Stacks
+pub mod Growing
+pub mod Proving
+pub mod Leasts

@@ -1,0 +1,7 @@
+pub mod Values
+pub mod Answers
+pub mod Causes
+pub mod Splits
+pub mod Fates
+pub mod Found
+mod Halts
