@@ -1,6 +1,8 @@
 mod certificates;
 mod faults;
 mod followers;
+mod formats;
+mod places;
 
 use crate::run::zero_run;
 use std::alloc::{AllocError, Global};
@@ -43,6 +45,25 @@ const HALF: &str = r#"{"format":"zero-game/1","players":[
 
 const PAIRED: &str =
     r#"{"format":"zero-game/1","players":[{"name":"A","vars":[{"name":"x"}],"pairs":[{"var":"x","terms":[],"add":1}]}]}"#;
+
+/// Matching pennies in which each side may be mixed at will.
+const MIXED_PENNIES: &str = r#"{"format":"zero-game/1","players":[
+{"name":"A","vars":[{"name":"x","up":1}],"cost":[["x",-2]],"cross":[["x","B","y",4]]},
+{"name":"B","vars":[{"name":"y","up":1}],"cost":[["y",2]],"cross":[["y","A","x",-4]]}]}"#;
+
+const MIXED_PENNIES_CERT: &str = "zero-cert/1
+kind pure 2
+verdict profile
+player 0 total 1 parts 1
+part 1 2 1
+player 1 total 1 parts 1
+part 1 2 1
+cost 0 0 1
+leaf 1 0
+cost 1 0 1
+leaf 1 0
+end
+";
 
 const PENNIES_CERT: &str = "zero-cert/1
 kind mixed 2
@@ -161,26 +182,58 @@ fn games_are_solved(rt: HostRuntime) -> Result<(), Fail> {
     Ok(())
 }
 
-/// Words of no action: what `clap` says of them comes before the line.
+/// Words out of form, and a call for help: what `clap` says of them, which names the word that is
+/// at fault, comes before the line.
 #[test]
-fn words_are_refused(rt: HostRuntime) -> Result<(), Fail> {
-    for line in [
-        "",
-        "solve g --kind",
-        "solve g --kind both",
-        "solve g --budget 1000000001",
-        "solve g --rounds 10001 --kind pure",
-        "solve g h",
-        "check g",
-        "check g c d",
-        "best g c",
-        "play g",
-        "--help",
+fn words_out_of_form_are_refused(rt: HostRuntime) -> Result<(), Fail> {
+    for (line, said) in [
+        ("", "error: "),
+        ("solve", "error: "),
+        ("solve g --kind", "error: a value is required for '--kind"),
+        (
+            "solve g --kind both",
+            "error: invalid value 'both' for '--kind",
+        ),
+        (
+            "solve g --budget 1000000001",
+            "error: invalid value '1000000001' for '--budget",
+        ),
+        (
+            "solve g --rounds 10001 --kind pure",
+            "error: invalid value '10001' for '--rounds",
+        ),
+        (
+            "solve g --speed 3",
+            "error: unexpected argument '--speed' found",
+        ),
+        ("check g c d", "error: unexpected argument 'd' found"),
+        ("--help", "Usage: zero "),
     ] {
         let ran = run_over(rt.alloc(), line, &[("g", ONE_BINARY.as_bytes())], [None; 3])?;
         assert_eq!(rt; ran.status, 2);
         assert!(rt; ran.out.bytes().is_empty());
-        assert!(rt; ran.err.bytes().ends_with(b"zero: usage\n"));
+        assert!(rt; ran.err.bytes().starts_with(said.as_bytes()));
+        assert!(rt; ran.err.bytes().ends_with(b"\nzero: usage\n"));
+    }
+    Ok(())
+}
+
+/// Words in the form of a command line, but of no action: the line alone.
+#[test]
+fn words_of_no_action_are_refused(rt: HostRuntime) -> Result<(), Fail> {
+    for line in [
+        "solve g h",
+        "check g",
+        "migrate g h",
+        "best g c",
+        "play g",
+        "gen knapsack 7",
+        "select g",
+        "matrix g",
+        "market g",
+    ] {
+        let ran = run_over(rt.alloc(), line, &[("g", ONE_BINARY.as_bytes())], [None; 3])?;
+        compare(&rt, &ran, (2, "", "zero: usage\n"));
     }
     Ok(())
 }
@@ -227,9 +280,43 @@ fn contents_are_refused(rt: HostRuntime) -> Result<(), Fail> {
         ),
         ("g", b"[]".as_slice(), 5, "zero: game: Kind \n"),
         ("g", CONTINUOUS.as_bytes(), 16, "zero: not built yet\n"),
+        ("g", MIXED_PENNIES.as_bytes(), 16, "zero: not built yet\n"),
     ] {
         let ran = run_over(alloc, SOLVE, &[(name, content)], [None; 3])?;
         compare(&rt, &ran, (status, "", said));
+    }
+    Ok(())
+}
+
+/// A game that can't be migrated: there is none, its text is too long, or there is no place for it.
+#[test]
+fn migrations_are_refused(rt: HostRuntime) -> Result<(), Fail> {
+    let alloc = rt.alloc();
+    let long = vec![in alloc; b' '; 8_388_609]?;
+    let text = ONE_BINARY.as_bytes();
+    for (name, content, fails, want) in [
+        ("h", text, [None; 3], (3, "", "zero: cannot read g\n")),
+        (
+            "g",
+            text,
+            [Some(0), None, None],
+            (3, "", "zero: cannot read g\n"),
+        ),
+        (
+            "g",
+            long.as_slice(),
+            [None; 3],
+            (4, "", "zero: g is longer than 8388608 bytes\n"),
+        ),
+        (
+            "g",
+            text,
+            [None, Some(0), None],
+            (12, "", "zero: write fault\n"),
+        ),
+    ] {
+        let ran = run_over(alloc, "migrate g", &[(name, content)], fails)?;
+        compare(&rt, &ran, want);
     }
     Ok(())
 }
@@ -283,6 +370,7 @@ fn certificates_are_accepted(rt: HostRuntime) -> Result<(), Fail> {
         (PENNIES, PENNIES_CERT, "accepted mixed profile\n"),
         (KNAPSACK, KNAPSACK_CERT, "accepted mixed profile\n"),
         (HALF, HALF_CERT, "accepted mixed none\n"),
+        (MIXED_PENNIES, MIXED_PENNIES_CERT, "accepted pure profile\n"),
     ] {
         let ran = check_over(rt.alloc(), game, cert)?;
         compare(&rt, &ran, (0, answer, ""));

@@ -62,6 +62,12 @@ fn follower_becomes_pairs(rt: HostRuntime) -> Result<(), Fail> {
     if leader.vars.len() != 3 || leader.pairs.len() != 2 {
         return Err(Fail::from("counts"));
     }
+    let choice = &leader.vars[0];
+    assert!(rt; choice.name.as_str() == "x" && !choice.whole);
+    assert!(rt; choice.low == Some(0) && choice.up == Some(2));
+    let greatest = &leader.vars[1];
+    assert!(rt; greatest.name.as_str() == "f" && !greatest.whole);
+    assert!(rt; greatest.low == Some(0) && greatest.up.is_none());
     let multiplier = &leader.vars[2];
     assert!(rt; !multiplier.whole && multiplier.low == Some(0) && multiplier.up.is_none());
     let answer = &leader.pairs[0];
@@ -70,5 +76,67 @@ fn follower_becomes_pairs(rt: HostRuntime) -> Result<(), Fail> {
     let left = &leader.pairs[1];
     assert!(rt; left.var == 2 && left.add == 0);
     assert!(rt; left.coef.as_slice() == [(0u32, 1i64), (1, -1)].as_slice());
+    Ok(())
+}
+
+/// A leader of 40 variables with a follower of 20 variables and 10 rows: 70 variables with the
+/// multipliers, and 30 pairs.
+fn large(alloc: Global) -> Result<Leader, Fail> {
+    let mut vars = Vec::new(alloc);
+    for i in 0..60u32 {
+        let name = format!(in alloc; "x{i}")?;
+        vars.push(variable(alloc, name.as_str(), None)?)?;
+    }
+    let mut rows = Vec::new(alloc);
+    for _ in 0..10 {
+        rows.push(Row {
+            coef: SmallVec::new(alloc),
+            le: 0,
+        })?;
+    }
+    let follower = Follower {
+        first: 40,
+        count: 20,
+        rows,
+        cost: SmallVec::new(alloc),
+        cross: Vec::new(alloc),
+    };
+    let base = Player {
+        name: String::from_str(alloc, "Leader_2")?,
+        vars,
+        rows: Vec::new(alloc),
+        pairs: Vec::new(alloc),
+        cost: SmallVec::new(alloc),
+        cross: Vec::new(alloc),
+        others: Vec::new(alloc),
+    };
+    Ok(Leader {
+        base,
+        followers: vec![in alloc; follower]?,
+    })
+}
+
+/// The number of the first leader that would have too many variables or pairs.
+fn first_past(alloc: Global, leaders: Vec<Leader>) -> Option<u32> {
+    match Source::new(leaders) {
+        Ok(source) => match expand(alloc, &source) {
+            Err(FollowError::Count(i)) => Some(i),
+            _ => None,
+        },
+        Err(_) => None,
+    }
+}
+
+/// The first leader that would have too many variables is told, wherever it stands.
+#[test]
+fn large_leaders_are_counted(rt: HostRuntime) -> Result<(), Fail> {
+    let alloc = rt.alloc();
+    assert_eq!(rt; first_past(alloc, vec![in alloc; large(alloc)?]?), Some(0));
+    let leaders = vec![in alloc; one_follower(alloc)?, large(alloc)?]?;
+    assert_eq!(rt; first_past(alloc, leaders), Some(1));
+    assert_eq!(rt;
+        first_past(alloc, vec![in alloc; one_follower(alloc)?]?),
+        None
+    );
     Ok(())
 }

@@ -717,7 +717,10 @@ const ORDERS: [(&str, &str); 20] = [
 ];
 
 /// Runs `migrate` over each text, and compares the line that names its first fault.
-fn compare_all<R: Abort + AllocGlobal>(rt: &R, texts: &[(&str, &str)]) -> Result<(), AllocError> {
+pub fn compare_all<R: Abort + AllocGlobal>(
+    rt: &R,
+    texts: &[(&str, &str)],
+) -> Result<(), AllocError> {
     let alloc = rt.alloc();
     for (fault, text) in texts {
         let ran = run_over(alloc, "migrate g", &[("g", text.as_bytes())], [None; 3])?;
@@ -727,7 +730,7 @@ fn compare_all<R: Abort + AllocGlobal>(rt: &R, texts: &[(&str, &str)]) -> Result
     Ok(())
 }
 
-/// Each fault at each place of a game's text.
+/// Faults at the places of a game's text.
 #[test]
 fn first_faults_are_told(rt: HostRuntime) -> Result<(), Fail> {
     for texts in [

@@ -110,6 +110,70 @@ leaf 1 7 1 2 10 2 12 1 15 2 16 3 19 1 20 3
 end
 ";
 
+/// Two power producers with small plants, which run where their premium is at least 3: a game of
+/// `examples/` with its certificate.
+const PRODUCERS: &str = r#"{"format":"zero-game/1","players":[
+{"name":"north",
+ "vars":[{"name":"own","up":3},{"name":"premium","up":5}],
+ "cost":[["own",-6],["premium",2],["hired",-7]],
+ "cross":[["own","south","own",1],["own","south","hired",1],
+          ["hired","south","own",1],["hired","south","hired",1]],
+ "followers":[{"vars":["hired"],"rows":[{"terms":[["hired",1]],"le":2}],
+  "cost":[["hired",3]],"cross":[["hired","premium",-1]]}]},
+{"name":"south",
+ "vars":[{"name":"own","up":3},{"name":"premium","up":5}],
+ "cost":[["own",-6],["premium",2],["hired",-7]],
+ "cross":[["own","north","own",1],["own","north","hired",1],
+          ["hired","north","own",1],["hired","north","hired",1]],
+ "followers":[{"vars":["hired"],"rows":[{"terms":[["hired",1]],"le":2}],
+  "cost":[["hired",3]],"cross":[["hired","premium",-1]]}]}]}"#;
+
+const PRODUCERS_CERT: &str = "zero-cert/1
+kind mixed 2
+verdict profile
+player 0 total 2 parts 2
+part 1 1 3 3 2 0
+part 1 1 3 0 0 0
+player 1 total 2 parts 2
+part 1 1 3 3 2 0
+part 1 1 3 0 0 0
+cost 0 -6 1
+choose 0
+leaf 1 3 1 2 2 2 9 3
+leaf 1 4 1 2 6 2 9 2 10 3
+cost 1 -6 1
+choose 0
+leaf 1 3 1 2 2 2 9 3
+leaf 1 4 1 2 6 2 9 2 10 3
+end
+";
+
+/// A city takes a toll of a road, and four cars go through the city or round it: a game of
+/// `examples/` with its certificate.
+const TOLL: &str = r#"{"format":"zero-game/1","players":[
+{"name":"city",
+ "vars":[{"name":"toll","up":5}],
+ "cost":[["toll",2],["centre",3]],
+ "followers":[{"vars":["centre","ring"],
+  "rows":[{"terms":[["centre",-1],["ring",-1]],"le":-4}],
+  "cost":[["centre",1],["ring",3]],"cross":[["centre","toll",1]]}]}]}"#;
+
+const TOLL_CERT: &str = "zero-cert/1
+kind pure 1
+verdict profile
+player 0 total 1 parts 1
+part 1 1 2 0 4 3
+cost 0 4 1
+choose 0
+choose 1
+leaf 0 3 9 1 11 1 12 1
+leaf 1 3 2 3 8 2 11 2
+choose 1
+leaf 1 3 0 2 11 3 12 3
+leaf 1 3 2 3 8 2 11 2
+end
+";
+
 /// A leader of 40 variables with a follower of 20 variables and 10 rows: 70 variables with the
 /// multipliers.
 const LARGE: &str = concat!(
@@ -135,6 +199,8 @@ fn followers_answer(rt: HostRuntime) -> Result<(), Fail> {
         (FREE, FREE_CERT, "accepted pure profile\n"),
         (UNANSWERED, UNANSWERED_CERT, "accepted pure profile\n"),
         (TWO_EACH, TWO_EACH_CERT, "accepted mixed profile\n"),
+        (PRODUCERS, PRODUCERS_CERT, "accepted mixed profile\n"),
+        (TOLL, TOLL_CERT, "accepted pure profile\n"),
     ] {
         let ran = check_over(rt.alloc(), game, cert)?;
         compare(&rt, &ran, (0, answer, ""));
