@@ -1,3 +1,5 @@
+ghost use Rattle.std.specs.Prelude.{◌≤◌};
+
 use super::*;
 use serde_json::Value;
 use std::alloc::Global;
@@ -101,7 +103,11 @@ fn reads_leaders_with_followers(rt: HostRuntime) -> Result<(), Fail> {
 }
 
 /// The first fault, with its path, of two players A and B of which A has two cross terms.
-fn fault_of(alloc: Global, most: u32, cross: u32, taken: &str) -> Result<Option<String>, Fail> {
+fn fault_of(alloc: Global, most: u32, cross: u32, taken: &str) -> Result<Option<String>, Fail>
+    requires some { 1 ≤ most }
+    requires few { most ≤ 16 }
+    requires few_cross { cross ≤ 65536 }
+{
     let text =
         "{\"players\":[{\"name\":\"A\",\"vars\":[{\"name\":\"x\",\"low\":-1}],\"cross\":[[\"x\",\"B\",\"y\",1],[\"x\",\"B\",\"z\",1]]},{\"name\":\"B\",\"vars\":[{\"name\":\"y\"},{\"name\":\"z\"}]}]}";
     let Ok(top) = Value::from_str(alloc, text) else {
@@ -117,22 +123,26 @@ fn fault_of(alloc: Global, most: u32, cross: u32, taken: &str) -> Result<Option<
     }
 }
 
+fn is_told(told: Option<String>, wanted: &str) -> bool {
+    match told {
+        Some(told) => told.as_str() == wanted,
+        None => false,
+    }
+}
+
 /// Players are read within limits of the caller's own, and without a name that is taken.
 #[test]
 fn reads_players_within_limits(rt: HostRuntime) -> Result<(), Fail> {
     let alloc = rt.alloc();
     assert!(rt; fault_of(alloc, 2, 2, "")?.is_none());
     assert!(rt; fault_of(alloc, 15, 64_512, "market")?.is_none());
-    for (most, cross, taken, wanted) in [
-        (15, 64_512, "A", "Twice /players/0/name"),
-        (15, 64_512, "B", "Twice /players/1/name"),
-        (1, 2, "", "Count /players"),
-        (2, 1, "", "Count /players/0/cross"),
-    ] {
-        match fault_of(alloc, most, cross, taken)? {
-            Some(told) => assert!(rt; told.as_str() == wanted),
-            None => assert!(rt; false),
-        }
-    }
+    let first = fault_of(alloc, 15, 64_512, "A")?;
+    assert!(rt; is_told(first, "Twice /players/0/name"));
+    let second = fault_of(alloc, 15, 64_512, "B")?;
+    assert!(rt; is_told(second, "Twice /players/1/name"));
+    let many = fault_of(alloc, 1, 2, "")?;
+    assert!(rt; is_told(many, "Count /players"));
+    let many_terms = fault_of(alloc, 2, 1, "")?;
+    assert!(rt; is_told(many_terms, "Count /players/0/cross"));
     Ok(())
 }
