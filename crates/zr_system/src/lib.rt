@@ -26,3 +26,6 @@ pub use size::{cells, share_column};
 pub use unknown::{Unknown, unknowns};
 pub use zr_base::NoMemory;
 pub use zr_game::{Choice, Named};
+
+#[cfg(test)]
+mod tests;
