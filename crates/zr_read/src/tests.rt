@@ -1,3 +1,5 @@
+ghost use Rattle.std.specs.Prelude.{◌≤◌};
+
 use super::*;
 use serde_json::Value;
 use std::alloc::Global;
@@ -42,8 +44,14 @@ fn has_fault(alloc: Global, text: &[u8], wanted: GameFault, place: &str) -> bool
 }
 
 /// Whether a text is read as one player with a variable, of this lower bound and cost, and rows of
-/// these right sides.
-fn is_one_player(alloc: Global, text: &[u8], low: Option<i64>, cost: i64, rows: &[i64]) -> bool {
+/// these numbers and right sides.
+fn is_one_player(
+    alloc: Global,
+    text: &[u8],
+    low: Option<i64>,
+    cost: i64,
+    rows: &[(i64, i64)],
+) -> bool {
     match read_game(alloc, text) {
         Ok(source) => match source.leaders.first() {
             Some(leader) => {
@@ -52,7 +60,9 @@ fn is_one_player(alloc: Global, text: &[u8], low: Option<i64>, cost: i64, rows: 
                     && base.vars[0].low == low
                     && base.cost.as_slice() == [(0, cost)].as_slice()
                     && base.rows.len() == rows.len()
-                    && base.rows.iter().zip(rows).all(|(row, le)| row.le == *le)
+                    && base.rows.iter().zip(rows).all(|(row, (number, le))| {
+                        row.le == *le && row.coef.as_slice() == [(0, *number)].as_slice()
+                    })
             }
             None => false,
         },
@@ -64,7 +74,7 @@ fn is_one_player(alloc: Global, text: &[u8], low: Option<i64>, cost: i64, rows: 
 #[test]
 fn reads_games_and_first_faults(rt: HostRuntime) -> Result<(), Fail> {
     let alloc = rt.alloc();
-    assert!(rt; is_one_player(alloc, FROM_BELOW, Some(-3), 1, &[5]));
+    assert!(rt; is_one_player(alloc, FROM_BELOW, Some(-3), 1, &[(-2, 5)]));
     assert!(rt; is_one_player(alloc, GREATEST, None, -3, &[]));
     for (text, fault, path) in &FAULTS {
         assert!(rt; has_fault(alloc, text, *fault, path));
@@ -92,20 +102,47 @@ fn reads_leaders_with_followers(rt: HostRuntime) -> Result<(), Fail> {
     Ok(())
 }
 
-/// A taken name is refused, and another one isn't.
-#[test]
-fn reads_players_without_a_taken_name(rt: HostRuntime) -> Result<(), Fail> {
-    let alloc = rt.alloc();
-    let text = "{\"players\":[{\"name\":\"market\",\"vars\":[{\"name\":\"x\"}]}]}";
-    match Value::from_str(alloc, text) {
-        Ok(top) => match top {
-            Value::Object(_) => {
-                assert!(rt; read_players(alloc, &top, 15, 64_512, "").is_ok());
-                assert!(rt; read_players(alloc, &top, 15, 64_512, "market").is_err());
-            }
-            _ => assert!(rt; false),
-        },
-        Err(_) => assert!(rt; false),
+/// The first fault, with its path, of two players A and B of which A has two cross terms.
+fn fault_of(alloc: Global, most: u32, cross: u32, taken: &str) -> Result<Option<String>, Fail>
+    requires some { 1 ≤ most }
+    requires few { most ≤ 16 }
+    requires few_cross { cross ≤ 65536 }
+{
+    let text =
+        "{\"players\":[{\"name\":\"A\",\"vars\":[{\"name\":\"x\",\"low\":-1}],\"cross\":[[\"x\",\"B\",\"y\",1],[\"x\",\"B\",\"z\",1]]},{\"name\":\"B\",\"vars\":[{\"name\":\"y\"},{\"name\":\"z\"}]}]}";
+    let Ok(top) = Value::from_str(alloc, text) else {
+        return Err(Fail::from("no value"));
+    };
+    let Value::Object(_) = top else {
+        return Err(Fail::from("no object"));
+    };
+    match read_players(alloc, &top, most, cross, taken) {
+        Ok(_) => Ok(None),
+        Err(GameError::At { fault, path }) => Ok(Some(format!(in alloc; "{fault:?} {path}")?)),
+        Err(_) => Err(Fail::from("no memory")),
     }
+}
+
+fn is_told(told: Option<String>, wanted: &str) -> bool {
+    match told {
+        Some(told) => told.as_str() == wanted,
+        None => false,
+    }
+}
+
+/// Players are read within limits of the caller's own, and without a name that is taken.
+#[test]
+fn reads_players_within_limits(rt: HostRuntime) -> Result<(), Fail> {
+    let alloc = rt.alloc();
+    assert!(rt; fault_of(alloc, 2, 2, "")?.is_none());
+    assert!(rt; fault_of(alloc, 15, 64_512, "market")?.is_none());
+    let first = fault_of(alloc, 15, 64_512, "A")?;
+    assert!(rt; is_told(first, "Twice /players/0/name"));
+    let second = fault_of(alloc, 15, 64_512, "B")?;
+    assert!(rt; is_told(second, "Twice /players/1/name"));
+    let many = fault_of(alloc, 1, 2, "")?;
+    assert!(rt; is_told(many, "Count /players"));
+    let many_terms = fault_of(alloc, 2, 1, "")?;
+    assert!(rt; is_told(many_terms, "Count /players/0/cross"));
     Ok(())
 }
