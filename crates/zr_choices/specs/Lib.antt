@@ -1,0 +1,4 @@
+pub mod Parted
+pub mod Programs
+pub mod Drawn
+pub mod Replies
