@@ -42,9 +42,10 @@ pub fn law_of_none()
         → HasNoEquilibrium game kind }
 {}
 
-/// Over exact leaves, fractions that solve the system under a complete list of choices draw an
-/// equilibrium of the kind: each leaf with weight is played with this weight, at its shares over it.
-/// Each profile under which all quantities of points have the same expected values is one too.
+/// Over covers all of whose leaves count as exact, fractions that solve the system under a complete
+/// list of choices draw an equilibrium of the kind: each leaf with weight is played with this weight,
+/// at its shares over it. Each profile of the game under which all quantities of points have the same
+/// expected values is an equilibrium too, though maybe not a pure one where the kind is pure.
 pub fn law_of_drawn_profiles()
     ensures drawn { (game : GameOf) → IsGame game → (leaves : LeavesOf) → AreCovers game leaves
         → AreExact game leaves → (kind : AKind) (path : List AChoice) (x : AnUnknown → ℤ)

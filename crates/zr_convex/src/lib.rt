@@ -1,4 +1,8 @@
-//! Equilibria and the system: each equilibrium gives a solution of it, and solutions give them.
+//! What the system says of equilibria: each equilibrium gives a solution under a complete list of
+//! choices, so that a refutation of the system shows that there is none; over leaves that all count
+//! as exact, such a solution draws an equilibrium.
+//!
+//! The crate holds laws alone, and no code that runs.
 #![tactic(auto)]
 
 mod laws;

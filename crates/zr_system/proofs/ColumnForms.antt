@@ -21,21 +21,16 @@ use Rattle.zr_system.specs.declared.line.Line.{Line}
 use Rattle.zr_system.specs.declared.line.Line.TheVariants as ALine
 use Rattle.zr_system.specs.declared.unknown.Unknown.{Unknown}
 use Rattle.zr_system.specs.declared.unknown.Unknown.TheVariants.{One, Dual}
-use Rattle.zr_system.specs.Asked.{ChoiceExists, LeafExists}
+use Rattle.zr_system.specs.Asked.{ChoiceExists, IsInColumns, LeafExists}
 use Rattle.zr_system.specs.Choices.{rows_under}
 use Rattle.zr_system.specs.Forms.{Form, FormHolds, FormRow, SolvesForms, amount, number_at, turned}
 use Rattle.zr_system.specs.Lines.{all_lines, base_lines, choice_lines, dual_lines, gain_form, leaf_lines, named_form, nothing, off_lines, other_lines, path_lines, player_lines, pull_form, pull_lines, reach_lines, row_of_line, slope_form, slot_form, slot_lines}
 use Rattle.zr_system.specs.Regions.{LeavesOf, all_slots, is_exact, is_present, leaf_count, named_at, slot_count, var_count}
 use Rattle.zr_system.specs.System.{ineq_over, system_rows, terms_from}
 use Rattle.zr_system.specs.Unknowns.{columns, list_to}
-use Rattle.zr_system.proofs.Expansion.{HasColumn, IsOver, expanded, total}
+use Rattle.zr_system.proofs.Expansion.{IsOver, expanded, total}
 use Rattle.zr_system.proofs.Joined.{all_of_each, each_if, each_to, each_unless}
-
--- a slot that is present is one of them
-slot_below : (xs : List (Option Bound)) (s : ℕ) → IsTrue (is_some (slot_of xs s)) → s < length xs
-slot_below [] s h = absurd cc
-slot_below (x ∷ xs) zero h = omega arith
-slot_below (x ∷ xs) (suc s) h = let r = slot_below xs s h in omega (arith, r)
+use Rattle.zr_system.proofs.Lists.{slot_below}
 
 -- the first of the summands apart
 first_apart : (n : ℕ) (f : ℕ → ℤ) → sum_to (suc n) f ≡ f 0 +ℤ sum_to n (λ k. f (suc k))
@@ -119,36 +114,29 @@ module _ (game : GameOf) (leaves : LeavesOf) where
 
     module _ (exact : is_exact leaves i k ≡ true) where
       -- what a slot multiplies has a column, or is 0
-      by_slot : (s : ℕ) (f : Option Bound → ℤ) → f None ≡ pos 0 → s < slot_count game leaves i k
+      by_slot : (s : ℕ) (f : Option Bound → ℤ) → f None ≡ pos 0
           → (f (slot_of (all_slots game leaves i k) s) ≡ pos 0) ⊎ ((Dual i k s ≡ One)
-          ⊎ HasColumn game leaves (Dual i k s))
-      by_slot s f none p = tested (slot_of (all_slots game leaves i k) s) refl
+          ⊎ IsInColumns game leaves (Dual i k s))
+      by_slot s f none = tested (slot_of (all_slots game leaves i k) s) refl
         where
           tested : (o : Option Bound) → slot_of (all_slots game leaves i k) s ≡ o
               → (f (slot_of (all_slots game leaves i k) s) ≡ pos 0) ⊎ ((Dual i k s ≡ One)
-              ⊎ HasColumn game leaves (Dual i k s))
+              ⊎ IsInColumns game leaves (Dual i k s))
           tested None e = inl (ap f e ∙ none)
           tested (Some b) e = inr (inr (
-            (
-              there,
-              exact,
-              let t : is_some (slot_of (all_slots game leaves i k) s) ≡ true = ap is_some e in t,
-            ),
-            p,
+            there,
+            exact,
+            let t : is_some (slot_of (all_slots game leaves i k) s) ≡ true = ap is_some e in t,
           ))
 
       over_pull : (v : ℕ) → IsOver game leaves (pull_form game leaves i k v)
-      over_pull v s p = by_slot s (λ o. option_map_or (λ bound. bound.coef v) o (pos 0)) refl p
+      over_pull v s p = by_slot s (λ o. option_map_or (λ bound. bound.coef v) o (pos 0)) refl
 
       over_gain : IsOver game leaves (gain_form game leaves i k)
       over_gain = (
         inr there.0,
-        λ s p. by_slot s (λ o. option_map_or (λ bound. bound.le) o (pos 0)) refl p,
+        λ s p. by_slot s (λ o. option_map_or (λ bound. bound.le) o (pos 0)) refl,
       )
-
-      dual_over : (s : ℕ) → IsTrue (is_present game leaves i k s) → s < slot_count game leaves i k
-          → HasColumn game leaves (Dual i k s)
-      dual_over s present p = ((there, exact, present), p)
 
   over_slope : (i v : ℕ) → IsOver game leaves (slope_form game leaves i v)
   over_slope i v = (inr (inl refl), λ k p u q. inr (λ l r. inr ((p, r), q)))
@@ -188,7 +176,7 @@ module _ (game : GameOf) (leaves : LeavesOf) where
           (each_to IsRowOver (slot_count game leaves i k)
           (λ s. if is_present game leaves i k s then ALine.Dual i k s false ∷ [] else [])
           (λ s p. each_if IsRowOver (is_present game leaves i k s) (ALine.Dual i k s false ∷ [])
-          (λ e. (inr (inr (dual_over i k there exact s e p)), tt))))
+          (λ e. (inr (inr (there, exact, e)), tt))))
           (each_join IsRowOver (pull_lines game i k) (ALine.Gain i k false ∷ [])
           (each_to IsRowOver (var_count game i)
           (λ v. ALine.Pull i k v false ∷ (ALine.Pull i k v true ∷ []))
@@ -220,8 +208,7 @@ module _ (game : GameOf) (leaves : LeavesOf) where
       → Each IsRowOver (choice_lines game leaves c)
   over_choice (AChoice.On i k) h = (inr (inr h), over_reach i k h)
   over_choice (AChoice.Off i k) h = off_over i k h
-  over_choice (AChoice.Zero i k s) h =
-      (inr (inr (inr (dual_over i k h.0 h.1 s h.2 (present_below i k s h.2)))), tt)
+  over_choice (AChoice.Zero i k s) h = (inr (inr (inr h)), tt)
   over_choice (AChoice.Tight i k s) h = (inr (over_slot i k h.0 s), tt)
   over_choice (AChoice.Which i k) h = (
     (inr (inr h), inl refl),

@@ -1,38 +1,13 @@
 -- Where a leaf's shares and its weight stand among the columns.
-use Rattle.std.proofs.Common.{◌≡◌, ◌≢◌, ℕ, zero, suc, ◌+◌, ◌<◌, arith, refl, sym, ap, subst, ◌∙◌, List, [], ◌∷◌, ◌++◌, length, slice_get, Some, ⊎_elim, if◌then◌else◌}
-use Rattle.std.proofs.lemmas.Bool.{cases_eq}
+use Rattle.std.proofs.Common.{◌≡◌, ℕ, suc, ◌+◌, ◌<◌, arith, refl, sym, ap, ◌∙◌, [], ◌∷◌, length, slice_get, Some, if◌then◌else◌}
 use Rattle.zr_game.specs.Players.{GameOf}
 use Rattle.zr_system.specs.declared.unknown.Unknown.{Unknown}
 use Rattle.zr_system.specs.declared.unknown.Unknown.TheVariants.{Share, Weight}
 use Rattle.zr_system.specs.Asked.{LeafExists}
 use Rattle.zr_system.specs.Regions.{LeavesOf, is_exact, leaf_count, var_count}
 use Rattle.zr_system.specs.Unknowns.{columns, duals, leaf_unknowns, list_to, player_unknowns, shares}
-use Rattle.zr_system.proofs.Sizes.{length_each, length_shares}
-
-module _ {A : Type 0} where
-  found_front : (xs ys : List A) (m : ℕ) (a : A) → slice_get xs m ≡ Some a
-      → slice_get (xs ++ ys) m ≡ Some a
-  found_front [] ys m a e = absurd cc
-  found_front (x ∷ xs) ys zero a e = e
-  found_front (x ∷ xs) ys (suc m) a e = found_front xs ys m a e
-
-  found_back : (xs ys : List A) (m : ℕ) (a : A) → slice_get ys m ≡ Some a
-      → slice_get (xs ++ ys) (length xs + m) ≡ Some a
-  found_back [] ys m a e = let z : 0 + m ≡ m = omega arith in ap (slice_get ys) z ∙ e
-  found_back (x ∷ xs) ys m a e =
-      let z : suc (length xs) + m ≡ suc (length xs + m) = omega arith in
-      ap (slice_get (x ∷ (xs ++ ys))) z ∙ found_back xs ys m a e
-
-  -- the items of list k stand after the lists before it
-  found_to : (f : ℕ → List A) (n k m : ℕ) (a : A) → k < n → slice_get (f k) m ≡ Some a
-      → slice_get (list_to n f) (length (list_to k f) + m) ≡ Some a
-  found_to f zero k m a h e = absurd (omega arith)
-  found_to f (suc n) k m a h e =
-      ⊎_elim (λ (s : k ≡ n). subst
-      (λ (j : ℕ). slice_get (list_to n f ++ f n) (length (list_to j f) + m) ≡ Some a) (sym s)
-      (found_back (list_to n f) (f n) m a (subst (λ (j : ℕ). slice_get (f j) m ≡ Some a) s e)))
-      (λ (c : k ≢ n). found_front (list_to n f) (f n) (length (list_to k f) + m) a
-      (found_to f n k m a (omega (arith, h, c)) e)) (cases_eq k n)
+use Rattle.zr_system.proofs.ListPlaces.{found_in, get_left, get_right, length_each}
+use Rattle.zr_system.proofs.Sizes.{length_shares}
 
 module _ (game : GameOf) (leaves : LeavesOf) (i k : ℕ) (leaf : LeafExists game leaves i k) where
   -- the column of the leaf's first share
@@ -48,8 +23,8 @@ module _ (game : GameOf) (leaves : LeavesOf) (i k : ℕ) (leaf : LeafExists game
       let z : first_column + m ≡ length (list_to i all) + suc (length (list_to k own) + m) =
       omega arith in
       ap (slice_get (columns game leaves)) z
-      ∙ found_to all (length game) i (suc (length (list_to k own) + m)) u leaf.0
-      (found_to own (leaf_count leaves i) k m u leaf.1 e)
+      ∙ found_in all (length game) i (suc (length (list_to k own) + m)) u leaf.0
+      (found_in own (leaf_count leaves i) k m u leaf.1 e)
 
   pub share_found : (v : ℕ) → v < var_count game i
       → slice_get (columns game leaves) (first_column + v) ≡ Some (Share i k v)
@@ -58,10 +33,11 @@ module _ (game : GameOf) (leaves : LeavesOf) (i k : ℕ) (leaf : LeafExists game
       let l : length (list_to v one) ≡ v =
       (let q = length_each v 1 one (λ v. refl) in omega (arith, q)) in
       let z : length (list_to v one) + 0 ≡ v = omega (arith, l) in
-      in_columns v (Share i k v) (found_front (shares game i k) (Weight i k ∷
-      (if is_exact leaves i k then duals game leaves i k else [])) v (Share i k v)
-      (ap (slice_get (shares game i k)) (sym z)
-      ∙ found_to one (var_count game i) v 0 (Share i k v) h refl))
+      let n = length_shares game leaves i k in
+      in_columns v (Share i k v) (get_left (shares game i k) (Weight i k ∷
+      (if is_exact leaves i k then duals game leaves i k else [])) v (omega (arith, n, h))
+      ∙ (ap (slice_get (shares game i k)) (sym z)
+      ∙ found_in one (var_count game i) v 0 (Share i k v) h refl))
 
   pub weight_found : slice_get (columns game leaves) (first_column + var_count game i)
       ≡ Some (Weight i k)
@@ -71,4 +47,4 @@ module _ (game : GameOf) (leaves : LeavesOf) (i k : ℕ) (leaf : LeafExists game
       let z : length (shares game i k) + 0 ≡ var_count game i = omega (arith, l) in
       in_columns (var_count game i) (Weight i k)
       (ap (slice_get (leaf_unknowns game leaves i k)) (sym z)
-      ∙ found_back (shares game i k) rest 0 (Weight i k) refl)
+      ∙ get_right (shares game i k) rest 0)

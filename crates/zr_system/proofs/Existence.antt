@@ -8,11 +8,13 @@ use Rattle.zr_game.specs.declared.choice.Choice.{Choice}
 use Rattle.zr_game.specs.declared.choice.Choice.TheVariants as AChoice
 use Rattle.zr_system.specs.declared.line.Line.{Line}
 use Rattle.zr_system.specs.declared.line.Line.TheVariants as ALine
-use Rattle.zr_system.specs.declared.unknown.Unknown.TheVariants.{Worth, Share, Weight, Dual}
-use Rattle.zr_system.specs.Regions.{LeavesOf, var_count, leaf_count, slot_count, is_present, is_exact, named_at}
+use Rattle.zr_system.specs.declared.unknown.Unknown.{Unknown}
+use Rattle.zr_system.specs.declared.unknown.Unknown.TheVariants.{One, Worth, Share, Weight, Dual}
+use Rattle.zr_system.specs.Regions.{LeavesOf, all_slots, var_count, leaf_count, slot_count, is_present, is_exact, named_at}
 use Rattle.zr_system.specs.Unknowns.{columns, duals, leaf_unknowns, list_to, player_unknowns, shares}
 use Rattle.zr_system.specs.Lines.{all_lines, base_lines, choice_lines, dual_lines, leaf_lines, off_lines, other_lines, path_lines, player_lines, pull_lines, reach_lines, slot_lines}
-use Rattle.zr_system.specs.Asked.{ChoiceExists, IsUnknown, LeafExists, LineExists, no_line}
+use Rattle.zr_system.specs.Asked.{ChoiceExists, IsInColumns, IsUnknown, LeafExists, LineExists, no_line}
+use Rattle.zr_system.proofs.Lists.{slot_below}
 
 module _ {A : Type 0} (P : A → Type 0) where
   pub all_nil : All P []
@@ -36,8 +38,8 @@ module _ {A : Type 0} (P : A → Type 0) where
   all_to (suc n) f h = all_append (list_to n f) (f n) (all_to n f (λ k p. h k (omega arith)))
       (h n (omega arith))
 
-  all_if : (b : Bool) (xs : List A) → All P xs → All P (if b then xs else [])
-  all_if true xs a = a
+  all_if : (b : Bool) (xs : List A) → (b ≡ true → All P xs) → All P (if b then xs else [])
+  all_if true xs a = a refl
   all_if false xs a = all_nil
 
   all_unless : (b : Bool) (xs : List A) → All P xs → All P (if b then [] else xs)
@@ -45,32 +47,40 @@ module _ {A : Type 0} (P : A → Type 0) where
   all_unless false xs a = a
 
 module _ (game : GameOf) (leaves : LeavesOf) where
-  leaf_exists : (i k : ℕ) → LeafExists game leaves i k
-      → All (IsUnknown game leaves) (leaf_unknowns game leaves i k)
-  leaf_exists i k h =
-      let P = IsUnknown game leaves in
+  leaf_in_columns : (i k : ℕ) → LeafExists game leaves i k
+      → All (IsInColumns game leaves) (leaf_unknowns game leaves i k)
+  leaf_in_columns i k h =
+      let P = IsInColumns game leaves in
       all_append P (shares game i k) (Weight i k ∷
       (if is_exact leaves i k then duals game leaves i k else []))
       (all_to P (var_count game i) (λ v. Share i k v ∷ [])
       (λ v q. all_one P (Share i k v) (h, q)))
       (all_cons P (Weight i k) (if is_exact leaves i k then duals game leaves i k else []) h
-      (all_if P (is_exact leaves i k) (duals game leaves i k)
-      (all_to P (slot_count game leaves i k)
+      (all_if P (is_exact leaves i k) (duals game leaves i k) (λ exact.
+      all_to P (slot_count game leaves i k)
       (λ s. if is_present game leaves i k s then Dual i k s ∷ [] else [])
       (λ s q. all_if P (is_present game leaves i k s) (Dual i k s ∷ [])
-      (all_one P (Dual i k s) (h, q))))))
+      (λ present. all_one P (Dual i k s) (h, exact, present))))))
 
-  pub columns_exist : All (IsUnknown game leaves) (columns game leaves)
-  columns_exist =
-      let P = IsUnknown game leaves in
+  -- no other unknown has a column
+  pub columns_hold : All (IsInColumns game leaves) (columns game leaves)
+  columns_hold =
+      let P = IsInColumns game leaves in
       all_to P (length game) (λ i. player_unknowns game leaves i)
       (λ i h. all_cons P (Worth i) (list_to (leaf_count leaves i)
       (λ k. leaf_unknowns game leaves i k)) h
       (all_to P (leaf_count leaves i) (λ k. leaf_unknowns game leaves i k)
-      (λ k q. leaf_exists i k (h, q))))
+      (λ k q. leaf_in_columns i k (h, q))))
 
-  abbrev L : Line → Type 0
-  L = LineExists game leaves
+  unknown_is : (u : Unknown) → IsInColumns game leaves u → IsUnknown game leaves u
+  unknown_is One h = tt
+  unknown_is (Worth i) h = h
+  unknown_is (Share i k v) h = h
+  unknown_is (Weight i k) h = h
+  unknown_is (Dual i k s) h = (h.0, slot_below (all_slots game leaves i k) s h.2)
+
+  pub columns_exist : All (IsUnknown game leaves) (columns game leaves)
+  columns_exist j d h = unknown_is (get_or (columns game leaves) j d) (columns_hold j d h)
 
   dual_lines_exist : (i k : ℕ) → LeafExists game leaves i k
       → All (LineExists game leaves) (dual_lines game leaves i k)
@@ -82,7 +92,7 @@ module _ (game : GameOf) (leaves : LeavesOf) where
       (all_to P (slot_count game leaves i k)
       (λ s. if is_present game leaves i k s then ALine.Dual i k s false ∷ [] else [])
       (λ s q. all_if P (is_present game leaves i k s) (ALine.Dual i k s false ∷ [])
-      (all_one P (ALine.Dual i k s false) h)))
+      (λ e. all_one P (ALine.Dual i k s false) h)))
       (all_append P (pull_lines game i k) (ALine.Gain i k false ∷ [])
       (all_to P (var_count game i) (λ v. ALine.Pull i k v false ∷ (ALine.Pull i k v true ∷ []))
       (λ v q. all_cons P (ALine.Pull i k v false) (ALine.Pull i k v true ∷ []) (h, q)
@@ -97,9 +107,10 @@ module _ (game : GameOf) (leaves : LeavesOf) where
       (all_to P (slot_count game leaves i k)
       (λ s. if is_present game leaves i k s then ALine.Slot i k s false ∷ [] else [])
       (λ s q. all_if P (is_present game leaves i k s) (ALine.Slot i k s false ∷ [])
-      (all_one P (ALine.Slot i k s false) h)))
+      (λ e. all_one P (ALine.Slot i k s false) h)))
       (all_cons P (ALine.Weight i k false) rest h
-      (all_if P (is_exact leaves i k) (dual_lines game leaves i k) (dual_lines_exist i k h)))
+      (all_if P (is_exact leaves i k) (dual_lines game leaves i k)
+      (λ e. dual_lines_exist i k h)))
 
   player_lines_exist : (i : ℕ) → i < length game
       → All (LineExists game leaves) (player_lines game leaves i)
@@ -127,7 +138,7 @@ module _ (game : GameOf) (leaves : LeavesOf) where
       → All (LineExists game leaves) (reach_lines leaves i k)
   reach_exists i k h =
       all_if (LineExists game leaves) (is_exact leaves i k) (ALine.Gain i k true ∷ [])
-      (all_one (LineExists game leaves) (ALine.Gain i k true) h)
+      (λ e. all_one (LineExists game leaves) (ALine.Gain i k true) h)
 
   choice_exists : (c : Choice) → ChoiceExists game leaves c
       → All (LineExists game leaves) (choice_lines game leaves c)

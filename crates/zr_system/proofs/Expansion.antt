@@ -11,11 +11,12 @@ use Rattle.zr_base.proofs.Worth.{Each}
 use Rattle.zr_game.specs.Players.{GameOf}
 use Rattle.zr_system.specs.declared.unknown.Unknown.{Unknown}
 use Rattle.zr_system.specs.declared.unknown.Unknown.TheVariants.{One, Worth, Share, Weight, Dual}
-use Rattle.zr_system.specs.Asked.{LeafExists, SlotExists}
+use Rattle.zr_system.specs.Asked.{IsInColumns, LeafExists}
 use Rattle.zr_system.specs.Forms.{Form, of, times, plus, sum, amount, is_same, number_at, only}
-use Rattle.zr_system.specs.Regions.{LeavesOf, is_exact, is_present, leaf_count, slot_count, var_count}
+use Rattle.zr_system.specs.Regions.{LeavesOf, all_slots, is_exact, is_present, leaf_count, slot_count, var_count}
 use Rattle.zr_system.specs.Unknowns.{columns, duals, leaf_unknowns, list_to, player_unknowns, shares}
 use Rattle.zr_system.proofs.Joined.{each_if, each_to}
+use Rattle.zr_system.proofs.Lists.{slot_below}
 use Rattle.zr_system.proofs.Sums.{sum_to-single}
 
 -- the sum of f over the list
@@ -85,7 +86,7 @@ back : (a b : Bool) → b ≡ false → (a && b) ≡ false
 back true b e = e
 back false b e = refl
 
-same_is : (u w : Unknown) → is_same u w ≡ true → u ≡ w
+pub same_is : (u w : Unknown) → is_same u w ≡ true → u ≡ w
 same_is One One e = refl
 same_is (Worth i) (Worth j) e = ap Worth (equal i j e)
 same_is (Share i k v) (Share j l w) e =
@@ -109,7 +110,7 @@ same_is (Dual i k s) (Dual j l t) e =
     rw (p, q, r) refl
 same_is a b e = absurd cc
 
-same_self : (u : Unknown) → is_same u u ≡ true
+pub same_self : (u : Unknown) → is_same u u ≡ true
 same_self One = refl
 same_self (Worth i) = itself i
 same_self (Share i k v) = rw (itself i, itself k, itself v) refl
@@ -120,7 +121,7 @@ same_self (Dual i k s) = rw (itself i, itself k, itself s) refl
 abbrev None : Unknown → List Unknown → Type 0
 None u us = Each (λ w. is_same w u ≡ false) us
 
-abbrev Once : Unknown → List Unknown → Type 0
+abbrev pub Once : Unknown → List Unknown → Type 0
 Once u us = total us (λ w. only w u) ≡ pos 1
 
 module _ (u : Unknown) where
@@ -163,14 +164,6 @@ module _ (u : Unknown) where
       (λ j p c. none_total (g j) (others j p c)) ∙ h
 
 module _ (game : GameOf) (leaves : LeavesOf) where
-  -- the unknown has a column
-  abbrev pub HasColumn : Unknown → Type 0
-  HasColumn One = ⊥
-  HasColumn (Worth i) = i < length game
-  HasColumn (Share i k v) = LeafExists game leaves i k × (v < var_count game i)
-  HasColumn (Weight i k) = LeafExists game leaves i k
-  HasColumn (Dual i k s) = SlotExists game leaves i k s × (s < slot_count game leaves i k)
-
   no_duals : (i k : ℕ) (u : Unknown) → ((s : ℕ) → is_same (Dual i k s) u ≡ false)
       → None u (duals game leaves i k)
   no_duals i k u h =
@@ -240,7 +233,7 @@ module _ (game : GameOf) (leaves : LeavesOf) where
   last_apart a b m n c = back a (b && (m == n)) (back b (m == n) (unequal m n c))
 
   -- each unknown that has a column has one
-  pub once : (u : Unknown) → HasColumn u → Once u (columns game leaves)
+  pub once : (u : Unknown) → IsInColumns game leaves u → Once u (columns game leaves)
   once One h = absurd h
   once (Worth i) h =
       once_to (Worth i) (length game) i (λ j. player_unknowns game leaves j) h
@@ -264,11 +257,11 @@ module _ (game : GameOf) (leaves : LeavesOf) where
       (if_duals i k (Weight i k) (λ s. refl)))) (λ j. refl) (λ j l v d. refl)
       (λ j l d. apart_two j i l k d) (λ j l s d. refl)
   once (Dual i k s) h =
-      of_leaf i k (Dual i k s) h.0.0 (once_right (Dual i k s) (shares game i k)
+      of_leaf i k (Dual i k s) h.0 (once_right (Dual i k s) (shares game i k)
       (Weight i k ∷ (if is_exact leaves i k then duals game leaves i k else []))
       (no_shares i k (Dual i k s) (λ v. refl)) (once_later (Dual i k s) (Weight i k)
       (if is_exact leaves i k then duals game leaves i k else []) refl
-      (in_exact (is_exact leaves i k) h.0.1))) (λ j. refl) (λ j l v d. refl) (λ j l d. refl)
+      (in_exact (is_exact leaves i k) h.1))) (λ j. refl) (λ j l v d. refl) (λ j l d. refl)
       (λ j l t d. apart_three j i l k (t == s) d)
     where
       P : Unknown → Type 0
@@ -281,8 +274,9 @@ module _ (game : GameOf) (leaves : LeavesOf) where
       there : Once (Dual i k s) (duals game leaves i k)
       there =
           once_to (Dual i k s) (slot_count game leaves i k) s
-          (λ t. if is_present game leaves i k t then Dual i k t ∷ [] else []) h.1
-          (here (is_present game leaves i k s) h.0.2)
+          (λ t. if is_present game leaves i k t then Dual i k t ∷ [] else [])
+          (slot_below (all_slots game leaves i k) s h.2)
+          (here (is_present game leaves i k s) h.2)
           (λ t p n. each_if (λ (w : Unknown). is_same w (Dual i k s) ≡ false)
           (is_present game leaves i k t) (Dual i k t ∷ [])
           (λ e. (last_apart (i == i) (k == k) t s n, tt)))
@@ -293,7 +287,7 @@ module _ (game : GameOf) (leaves : LeavesOf) where
       in_exact false e = absurd cc
 
   -- a column isn't the denominator's
-  not_one : (u : Unknown) → HasColumn u → is_same One u ≡ false
+  not_one : (u : Unknown) → IsInColumns game leaves u → is_same One u ≡ false
   not_one One h = absurd h
   not_one (Worth i) h = refl
   not_one (Share i k v) h = refl
@@ -302,7 +296,7 @@ module _ (game : GameOf) (leaves : LeavesOf) where
 
   -- each unknown of the form has a column, or is multiplied by 0, or is the denominator
   abbrev pub IsOver : Form → Type 0
-  IsOver (of u) = (u ≡ One) ⊎ HasColumn u
+  IsOver (of u) = (u ≡ One) ⊎ IsInColumns game leaves u
   IsOver (times a f) = (a ≡ pos 0) ⊎ IsOver f
   IsOver (plus f g) = IsOver f × IsOver g
   IsOver (sum n f) = (k : ℕ) → k < n → IsOver (f k)
@@ -328,7 +322,7 @@ module _ (game : GameOf) (leaves : LeavesOf) where
             let b : x u *ℤ pos 0 ≡ pos 0 = omega (arith, ints) in
             rw e (a ∙ sym b)
 
-    of_column : (u : Unknown) → HasColumn u
+    of_column : (u : Unknown) → IsInColumns game leaves u
         → x u ≡ across (of u) +ℤ number_at (of u) One *ℤ x One
     of_column u h =
         let e = not_one u h in

@@ -1,5 +1,5 @@
 -- How many rows and unknowns leaves have.
-use Rattle.std.proofs.Common.{◌≡◌, ℕ, zero, suc, ◌+◌, ◌*◌, ◌^◌, ◌<◌, arith, refl, ap, ◌∙◌, Bool, true, false, List, [], ◌∷◌, ◌++◌, map, length, add-one, length-append, slice_index_or, if◌then◌else◌}
+use Rattle.std.proofs.Common.{◌≡◌, ℕ, zero, suc, ◌+◌, ◌*◌, ◌^◌, ◌<◌, arith, refl, Bool, true, false, List, [], ◌∷◌, ◌++◌, map, length, length-append, slice_index_or, if◌then◌else◌}
 use Rattle.std.specs.Global.{Vec}
 use Rattle.std.proofs.lemmas.List.{length-map}
 use Rattle.zr_base.proofs.Members.{each_of_all}
@@ -13,32 +13,7 @@ use Rattle.zr_system.specs.declared.unknown.Unknown.TheVariants.{Dual, Share, We
 use Rattle.zr_system.specs.Lines.{dual_lines, leaf_lines, player_lines, pull_lines, slot_lines}
 use Rattle.zr_system.specs.Regions.{LeavesOf, is_exact, is_present, leaf_count, leaves_of, named_at, region_of, slot_count, var_count}
 use Rattle.zr_system.specs.Unknowns.{duals, leaf_unknowns, list_to, over_present, player_unknowns, shares}
-
-pub length_more : {A : Type 0} (n : ℕ) (f : ℕ → List A)
-    → length (list_to (n + 1) f) ≡ length (list_to n f) + length (f n)
-length_more n f =
-    let e : list_to (n + 1) f ≡ list_to n f ++ f n = rw add-one refl in
-    ap (λ xs. length xs) e ∙ length-append (list_to n f) (f n)
-
--- lists of the same lengths
-length_like : {A B : Type 0} (n : ℕ) (f : ℕ → List A) (g : ℕ → List B)
-    → ((k : ℕ) → length (f k) ≡ length (g k)) → length (list_to n f) ≡ length (list_to n g)
-length_like zero f g h = refl
-length_like (suc n) f g h =
-    let r = length_like n f g h in
-    let a = length-append (list_to n f) (f n) in
-    let b = length-append (list_to n g) (g n) in
-    let s = h n in
-    omega (arith, r, a, b, s)
-
-pub length_each : {A : Type 0} (n c : ℕ) (f : ℕ → List A) → ((k : ℕ) → length (f k) ≡ c)
-    → length (list_to n f) ≡ n * c
-length_each zero c f h = omega arith
-length_each (suc n) c f h =
-    let r = length_each n c f h in
-    let a = length-append (list_to n f) (f n) in
-    let s = h n in
-    omega (arith, r, a, s)
+use Rattle.zr_system.proofs.ListPlaces.{length_each, length_like}
 
 few_in : (lists : List (Vec Region)) → Each (λ list. length list.items < 2 ^ 32) lists → (i : ℕ)
     → length (slice_index_or (map (λ list. map region_of list.items) lists) i []) < 2 ^ 32

@@ -80,7 +80,17 @@ abbrev pub direction : NamedOf → ℕ → ℤ
 direction (NamedPoint p) = num_of p
 direction (NamedRay base dir) = λ v. slice_index_or dir v (pos 0)
 
--- the unknown has a column, or is the common denominator
+-- the unknown has a column: it is the value of a player, a share or the weight of a leaf, or the
+-- multiplier of a slot that is present in an exact leaf
+abbrev pub IsInColumns : GameOf → LeavesOf → Unknown → Type 0
+IsInColumns game leaves One = ⊥
+IsInColumns game leaves (Worth i) = i < length game
+IsInColumns game leaves (Share i k v) = LeafExists game leaves i k × (v < var_count game i)
+IsInColumns game leaves (Weight i k) = LeafExists game leaves i k
+IsInColumns game leaves (Dual i k s) = SlotExists game leaves i k s
+
+-- the unknown is the common denominator, or speaks of a player, leaf, variable or slot that exists;
+-- the slot may be absent and the leaf not exact
 abbrev pub IsUnknown : GameOf → LeavesOf → Unknown → Type 0
 IsUnknown game leaves One = Unit {0}
 IsUnknown game leaves (Worth i) = i < length game

@@ -16,8 +16,8 @@ pub record LiesIn (game : GameOf) (leaves : LeavesOf) (i k : ℕ) (x : PointOf) 
   pub rows : (s : ℕ) (row : Bound) → slot_of (all_slots game leaves i k) s ≡ Some row
       → BoundHolds (player_at game i) x row
 
--- each feasible point of player i lies in one of its leaves; each point of an exact leaf is
--- feasible, and there is one; and what is named is a feasible point, or a ray at one
+-- each feasible point of player i lies in one of its leaves; each point of a leaf that counts as
+-- exact is feasible, and there is one; and what is named is a feasible point, or a ray at one
 pub record IsCover (game : GameOf) (leaves : LeavesOf) (i : ℕ) (player : PlayerOf) : Type 0 where
   pub covers : (x : PointOf) → IsFeasible player x
       → (k : ℕ) × (k < leaf_count leaves i) × LiesIn game leaves i k x
@@ -32,7 +32,7 @@ abbrev pub AreCovers : GameOf → LeavesOf → Type 0
 AreCovers game leaves =
     (i : ℕ) (player : PlayerOf) → IsPlayer game i player → IsCover game leaves i player
 
--- every leaf is exact
+-- every leaf counts as exact
 abbrev pub AreExact : GameOf → LeavesOf → Type 0
 AreExact game leaves =
     (i k : ℕ) → i < length game → k < leaf_count leaves i → is_exact leaves i k ≡ true

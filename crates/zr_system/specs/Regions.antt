@@ -12,7 +12,7 @@ use Rattle.zr_game.specs.Named.{NamedOf, named_of}
 use Rattle.zr_system.specs.declared.leaves.Region.{Region}
 use Rattle.zr_system.specs.declared.leaves.Leaves.{Leaves}
 
--- a leaf, and whether all of its points are feasible
+-- a leaf, and whether it counts as exact
 pub record RegionOf : Type 0 where
   pub leaf : LeafOf
   pub exact : Bool
@@ -67,6 +67,7 @@ no_region = record {
 abbrev pub region_at : LeavesOf → ℕ → ℕ → RegionOf
 region_at leaves i k = slice_index_or (slice_index_or leaves.regions i []) k no_region
 
+-- leaf k of player i counts as exact
 abbrev pub is_exact : LeavesOf → ℕ → ℕ → Bool
 is_exact leaves i k = (region_at leaves i k).exact
 

@@ -1,11 +1,11 @@
-ghost use Rattle.std.specs.Prelude.{◌≡◌, ◌↔◌, ℤ, List, length, slice_index_or};
+ghost use Rattle.std.specs.Prelude.{◌≡◌, ◌↔◌, ℕ, ℤ, List, Some, length, slice_get, slice_index_or};
 ghost use Rattle.std.specs.List.{All};
 ghost use Rattle.zr_lin.specs.Ineqs.{Solves};
 ghost use Rattle.zr_game.specs.Players.{GameOf};
 ghost use Rattle.zr_game.specs.declared.choice.Choice.{Choice as AChoice};
 ghost use Rattle.zr_system.specs.declared.unknown.Unknown.{Unknown as AnUnknown};
 ghost use Rattle.zr_system.specs.declared.unknown.Unknown.TheVariants.{One};
-ghost use Rattle.zr_system.specs.Asked.{ChoiceExists};
+ghost use Rattle.zr_system.specs.Asked.{ChoiceExists, IsInColumns};
 ghost use Rattle.zr_system.specs.Choices.{rows_under};
 ghost use Rattle.zr_system.specs.Forms.{SolvesForms};
 ghost use Rattle.zr_system.specs.Lines.{base_lines};
@@ -29,4 +29,15 @@ pub fn law_of_columns()
         → All (ChoiceExists game leaves) path → (x : AnUnknown → ℤ)
         → SolvesForms (rows_under game leaves path) x ↔ Solves (system_rows game leaves path)
         (λ j. x (slice_index_or (columns game leaves) j One)) (x One) }
+{}
+
+/// The values of players, the shares and weights of leaves, and the multipliers of slots that are
+/// present in exact leaves have one column each, and nothing else has one.
+pub fn law_of_unknowns()
+    ensures once { (game : GameOf) (leaves : LeavesOf) (u : AnUnknown)
+        → IsInColumns game leaves u
+        → (j : ℕ) × (slice_get (columns game leaves) j ≡ Some u)
+        × ((k : ℕ) → slice_get (columns game leaves) k ≡ Some u → k ≡ j) }
+    ensures alone { (game : GameOf) (leaves : LeavesOf) (j : ℕ) (u : AnUnknown)
+        → slice_get (columns game leaves) j ≡ Some u → IsInColumns game leaves u }
 {}

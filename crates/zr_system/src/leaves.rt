@@ -1,7 +1,8 @@
 use zr_base::{Cut, Wide};
 use zr_game::{Leaf, Named};
 
-/// A leaf of a player's cover, and whether all of its points are feasible.
+/// A leaf of a player's cover, and whether it counts as exact: then it has multipliers. Of a right
+/// cover each leaf at a known point does, and its points are feasible.
 #[derive(Debug, Drop)]
 pub struct Region {
     pub leaf: Leaf,

@@ -1,4 +1,9 @@
-//! The linear system whose solutions are a game's equilibria over given leaves.
+//! The linear system whose solutions are a game's equilibria over given leaves: its unknowns in the
+//! order of their columns, its rows by name and as inequalities, under choices that are made, and how
+//! many there are.
+//!
+//! The definitions of covers, of what a complete list of choices asks, and of the profile that a
+//! solution draws stand here too; what they amount to is proved in the crates above.
 #![tactic(auto)]
 
 mod build;
@@ -16,7 +21,7 @@ mod unknown;
 
 pub use build::{is_strict, rows};
 pub use counts::{is_exact, leaf_count, named_count, player_count, var_count};
-pub use laws::{law_of_columns, law_of_worked_counts};
+pub use laws::{law_of_columns, law_of_unknowns, law_of_worked_counts};
 pub use leaves::{Leaves, Region, SystemError};
 pub use line::{Line, base_lines};
 pub use narrow::item_is_narrow;

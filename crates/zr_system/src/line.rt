@@ -224,10 +224,10 @@ fn push_leaf(
         leaf: k,
         negated: false,
     })?;
-    if is_exact(game, leaves, i, k) {
-        push_dual_rows(list, game, leaves, i, k)?;
+    if !is_exact(game, leaves, i, k) {
+        return Ok(());
     }
-    Ok(())
+    push_dual_rows(list, game, leaves, i, k)
 }
 
 /// Appends the rows of a leaf's slots.
