@@ -13,6 +13,7 @@ use Rattle.zr_asked.specs.declared.question.Asked.TheVariants.{Branch, Choices}
 use Rattle.zr_system.specs.Asked.{HasWideCoefficient}
 use Rattle.zr_system.specs.Regions.{LeavesOf}
 use Rattle.zr_system.specs.System.{system_rows}
+use Rattle.zr_cases.specs.Forms.{AreCounted}
 use Rattle.zr_refute.specs.Refuting.{Closes}
 use Rattle.zr_choices.specs.declared.reply.Reply.{Reply}
 use Rattle.zr_choices.specs.declared.reply.Reply.TheVariants as AReply
@@ -31,6 +32,7 @@ pub record IsSolvedBy (game : GameOf) (leaves : LeavesOf) (path : List Choice)
 -- the multipliers refute the system under the path, and are drawn from the question
 pub record IsRefutedBy (game : GameOf) (leaves : LeavesOf) (path : List Choice)
     (mult : Terms) : Type 0 where
+  pub counted : AreCounted mult
   pub closes : Closes game leaves path mult
   pub drawn : AreDrawn game leaves path mult
 
