@@ -149,9 +149,8 @@ pub at_answer : (player : PlayerOf) (aim : List ℤ) (old new : Purse) (spent : 
     (plans : List Plan) (tree : Tree) → IsGrown player aim spent (Some best) plans
     → new.branches ≡ old.branches + spent
     → IsTreeFor player (proofs_for (scaled_aim best.value aim) (Some best.value.num)) spent tree
-    → IsLeastAnswer player aim old new (At best.point tree)
+    → IsLeastAnswer player aim old new (At best.point best.value tree)
 at_answer player aim old new spent best plans tree g e made = (
-  best.value,
   made.0,
   least_at player aim spent best plans g,
   g.best_is.drawn,

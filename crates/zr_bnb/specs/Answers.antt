@@ -34,10 +34,10 @@ pub record IsSearchTree (player : PlayerOf) (aim : List ℤ) (old new : Purse)
 -- the point has the least value, and the tree proves that none is lower; or the tree leaves no
 -- point; or the aim falls along a ray
 abbrev pub IsLeastAnswer : PlayerOf → List ℤ → Purse → Purse → LeastAnswer → Type 0
-IsLeastAnswer player aim old new (At point tree) =
-    (f : Fraction) × (t : TreeOf) × IsLeastAt player aim f point
+IsLeastAnswer player aim old new (At point value tree) =
+    (t : TreeOf) × IsLeastAt player aim value point
     × IsDrawnPoint player (MayAsk player aim) point × IsTreeOf tree t
-    × IsRight player (least_row aim f) (root_leaf player) t × IsSearchTree player aim old new t
+    × IsRight player (least_row aim value) (root_leaf player) t × IsSearchTree player aim old new t
 IsLeastAnswer player aim old new (Empty tree) =
     (t : TreeOf) × IsTreeOf tree t × IsRefuted player (root_leaf player) t
     × IsSearchTree player aim old new t

@@ -1,17 +1,26 @@
 use zr_asked::AskedLp;
-use zr_base::{Point, Wide};
+use zr_base::{Frac, Point, Wide};
 use zr_tree::Tree;
 
 /// The least value of an aim on a player's points.
 #[derive(Debug, Drop)]
 pub enum LeastAnswer {
-    /// A point with the least value, and a tree that proves that no point has a lower one: with
-    /// `n / m` the value in lowest terms, it proves the row `-m * aim * x <= -n`.
-    At { point: Point, tree: Tree },
+    /// A point with the least value, that value, and a tree that proves that no point has a lower
+    /// one: with `n / m` the value in lowest terms, it proves the row `-m * aim * x <= -n`.
+    At {
+        point: Point,
+        value: Frac,
+        tree: Tree,
+    },
     /// A tree that shows that the player has no point.
-    Empty { tree: Tree },
+    Empty {
+        tree: Tree,
+    },
     /// A point, and a direction from there along which the points stay feasible and the aim falls.
-    Below { base: Point, dir: Vec<i128> },
+    Below {
+        base: Point,
+        dir: Vec<i128>,
+    },
 }
 
 /// Why a search has no answer.

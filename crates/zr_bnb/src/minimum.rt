@@ -186,6 +186,6 @@ fn at(
         purse,
     ) {
         Err(stop) => Err(stop),
-        Ok(tree) => Ok(LeastAnswer::At { point, tree }),
+        Ok(tree) => Ok(LeastAnswer::At { point, value, tree }),
     }
 }

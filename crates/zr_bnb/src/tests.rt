@@ -117,7 +117,7 @@ fn a_whole_variable_is_rounded_down(rt: HostRuntime) -> Result<(), Fail> {
     )?;
     let mut purse = Purse::new(100);
     match found(alloc, &game, &[-1], &mut purse)? {
-        Ok(LeastAnswer::At { point, tree }) => {
+        Ok(LeastAnswer::At { point, tree, .. }) => {
             assert_eq!(rt; (num(&point, 0), point.den()), (2, 1));
             assert_eq!(rt;
                 text(alloc, &tree)?.as_str(),
@@ -213,7 +213,7 @@ fn a_pair_is_chosen(rt: HostRuntime) -> Result<(), Fail> {
     )?;
     let mut purse = Purse::new(100);
     match found(alloc, &game, &[-3, -4], &mut purse)? {
-        Ok(LeastAnswer::At { point, tree }) => {
+        Ok(LeastAnswer::At { point, tree, .. }) => {
             assert_eq!(rt; (num(&point, 0), num(&point, 1)), (0, point.den()));
             assert_eq!(rt;
                 text(alloc, &tree)?.as_str(),
@@ -252,7 +252,7 @@ fn a_variable_is_split_below_zero(rt: HostRuntime) -> Result<(), Fail> {
     )?;
     let mut purse = Purse::new(100);
     match found(alloc, &game, &[-1], &mut purse)? {
-        Ok(LeastAnswer::At { point, tree }) => {
+        Ok(LeastAnswer::At { point, tree, .. }) => {
             assert_eq!(rt; (num(&point, 0), point.den()), (-3, 1));
             assert_eq!(rt;
                 text(alloc, &tree)?.as_str(),
@@ -275,8 +275,9 @@ fn a_free_variable_has_a_least_value(rt: HostRuntime) -> Result<(), Fail> {
     )?;
     let mut purse = Purse::new(0);
     match found(alloc, &game, &[-1], &mut purse)? {
-        Ok(LeastAnswer::At { point, tree }) => {
+        Ok(LeastAnswer::At { point, value, tree }) => {
             assert_eq!(rt; (num(&point, 0), point.den()), (-5, 2));
+            assert_eq!(rt; (value.num(), value.den()), (5, 2));
             assert_eq!(rt; text(alloc, &tree)?.as_str(), "leaf 1 0 1;");
             Ok(())
         }
