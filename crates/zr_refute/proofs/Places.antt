@@ -2,6 +2,7 @@
 use Rattle.std.proofs.Common.{◌≡◌, ◌≢◌, ℕ, zero, suc, ◌+◌, ◌*◌, ◌-◌, ◌/◌, ◌%◌, ◌<◌, ◌≤◌, ◌==◌, arith, refl, sym, ap, subst, ◌∙◌, mul_comm, mul-le-mul_right, true, false, if◌then◌else◌, List, [], ◌∷◌, ◌++◌, length, slice_get, get_or, drop, drop-cons, Some, None, ⊎_elim, length-append, add-one}
 use Rattle.std.proofs.lemmas.Bool.{cases_eq, cases_lt}
 use Rattle.std.proofs.lemmas.Bool.Decides.{nat_tests}
+use Rattle.std.proofs.lemmas.Option.{slice_get_past}
 use Rattle.zr_game.specs.Players.{GameOf}
 use Rattle.zr_game.specs.declared.choice.Choice.{Choice}
 use Rattle.zr_system.specs.declared.line.Line.{Line}
@@ -9,77 +10,23 @@ use Rattle.zr_system.specs.declared.line.Line.TheVariants.{Share}
 use Rattle.zr_system.specs.Lines.{choice_lines, off_lines, other_lines, path_lines}
 use Rattle.zr_system.specs.Regions.{LeavesOf, leaf_count, var_count}
 use Rattle.zr_system.specs.Unknowns.{list_to}
+use Rattle.zr_system.proofs.ListPlaces.{get_in, length_each}
 
-module _ {A : Type 0} where
-  pub get_left : (xs ys : List A) (m : ℕ) → m < length xs
-      → slice_get (xs ++ ys) m ≡ slice_get xs m
-  get_left [] ys m h = absurd (omega arith)
-  get_left (x ∷ xs) ys zero h = refl
-  get_left (x ∷ xs) ys (suc m) h = get_left xs ys m (omega (arith, h))
-
-  get_right : (xs ys : List A) (m : ℕ) → slice_get (xs ++ ys) (length xs + m) ≡ slice_get ys m
-  get_right [] ys m = let e : 0 + m ≡ m = omega arith in ap (slice_get ys) e
-  get_right (x ∷ xs) ys m =
-      let e : suc (length xs) + m ≡ suc (length xs + m) = omega arith in
-      ap (slice_get (x ∷ (xs ++ ys))) e ∙ get_right xs ys m
-
-  pub get_after : (xs ys : List A) (m : ℕ) → length xs ≤ m
-      → slice_get (xs ++ ys) m ≡ slice_get ys (m - length xs)
-  get_after xs ys m h =
-      let e : length xs + (m - length xs) ≡ m = omega (arith, h) in
-      ap (slice_get (xs ++ ys)) (sym e) ∙ get_right xs ys (m - length xs)
-
-  pub get_past : (xs : List A) (m : ℕ) → length xs ≤ m → slice_get xs m ≡ None
-  get_past [] m h = refl
-  get_past (x ∷ xs) zero h = absurd (omega arith)
-  get_past (x ∷ xs) (suc m) h = get_past xs m (omega (arith, h))
-
-  module _ (f : ℕ → List A) where
-    -- the lists before one, and that one
-    shorter : (n m : ℕ) → m < n → length (list_to m f) + length (f m) ≤ length (list_to n f)
-    shorter zero m h = absurd (omega arith)
-    shorter (suc n) m h =
-        let l = length-append (list_to n f) (f n) in
-        ⊎_elim (λ (e : m ≡ n). subst
-        (λ (k : ℕ). length (list_to k f) + length (f k) ≤ length (list_to n f ++ f n)) (sym e)
-        (omega (arith, l)))
-        (λ (c : m ≢ n). let r = shorter n m (omega (arith, h, c)) in omega (arith, l, r))
-        (cases_eq m n)
-
-    get_in : (n m r : ℕ) → m < n → r < length (f m)
-        → slice_get (list_to n f) (length (list_to m f) + r) ≡ slice_get (f m) r
-    get_in zero m r h b = absurd (omega arith)
-    get_in (suc n) m r h b =
-        ⊎_elim (λ (e : m ≡ n). subst
-        (λ (k : ℕ). slice_get (list_to n f ++ f n) (length (list_to k f) + r)
-        ≡ slice_get (f k) r) (sym e) (get_right (list_to n f) (f n) r))
-        (λ (c : m ≢ n). let s = shorter n m (omega (arith, h, c)) in
-        get_left (list_to n f) (f n) (length (list_to m f) + r) (omega (arith, s, b))
-        ∙ get_in n m r (omega (arith, h, c)) b) (cases_eq m n)
-
-    -- lists of one length
-    even : (s n : ℕ) → ((k : ℕ) → length (f k) ≡ s) → length (list_to n f) ≡ n * s
-    even s zero h = omega arith
-    even s (suc n) h =
-        let l = length-append (list_to n f) (f n) in
-        let r = even s n h in
-        let e = h n in
-        omega (arith, l, r, e)
-
-    -- lists of one length, but for list k, which is empty
-    but_one : (s k n : ℕ) → ((j : ℕ) → j ≢ k → length (f j) ≡ s) → length (f k) ≡ 0
-        → (n ≤ k → length (list_to n f) ≡ n * s) × (k < n → length (list_to n f) + s ≡ n * s)
-    but_one s k zero h z = ((λ p. omega arith), λ p. absurd (omega arith))
-    but_one s k (suc n) h z =
-        let l = length-append (list_to n f) (f n) in
-        let r = but_one s k n h z in (
-          λ p. let a = r.0 (omega (arith, p)) in let e = h n (λ (q : n ≡ k). omega arith) in
-              omega (arith, l, a, e),
-          λ p. ⊎_elim (λ (q : n ≡ k). let a = r.0 (omega (arith, q)) in
-              let e : length (f n) ≡ 0 = subst (λ (j : ℕ). length (f j) ≡ 0) (sym q) z in
-              omega (arith, l, a, e)) (λ (c : n ≢ k). let a = r.1 (omega (arith, p, c)) in
-              let e = h n c in omega (arith, l, a, e)) (cases_eq n k),
-        )
+module _ {A : Type 0} (f : ℕ → List A) where
+  -- lists of one length, but for list k, which is empty
+  but_one : (s k n : ℕ) → ((j : ℕ) → j ≢ k → length (f j) ≡ s) → length (f k) ≡ 0
+      → (n ≤ k → length (list_to n f) ≡ n * s) × (k < n → length (list_to n f) + s ≡ n * s)
+  but_one s k zero h z = ((λ p. omega arith), λ p. absurd (omega arith))
+  but_one s k (suc n) h z =
+      let l = length-append (list_to n f) (f n) in
+      let r = but_one s k n h z in (
+        λ p. let a = r.0 (omega (arith, p)) in let e = h n (λ (q : n ≡ k). omega arith) in
+            omega (arith, l, a, e),
+        λ p. ⊎_elim (λ (q : n ≡ k). let a = r.0 (omega (arith, q)) in
+            let e : length (f n) ≡ 0 = subst (λ (j : ℕ). length (f j) ≡ 0) (sym q) z in
+            omega (arith, l, a, e)) (λ (c : n ≢ k). let a = r.1 (omega (arith, p, c)) in
+            let e = h n c in omega (arith, l, a, e)) (cases_eq n k),
+      )
 
 module _ (game : GameOf) (i k : ℕ) where
   abbrev both_shares : ℕ → List Line
@@ -87,7 +34,7 @@ module _ (game : GameOf) (i k : ℕ) where
 
   pub off_length : length (off_lines game i k) ≡ 1 + 2 * var_count game i
   off_length =
-      let e = even both_shares 2 (var_count game i) (λ v. refl) in omega (arith, e)
+      let e = length_each (var_count game i) 2 both_shares (λ v. refl) in omega (arith, e)
 
   at_share : (v r : ℕ) → r < 2 → slice_get (both_shares v) r ≡ Some (Share i k v (r == 1))
   at_share v zero h = refl
@@ -100,7 +47,7 @@ module _ (game : GameOf) (i k : ℕ) where
   off_share (suc m) c h =
       let o : suc m - 1 ≡ m = omega arith in
       let b : m / 2 < var_count game i = subst (λ (z : ℕ). z / 2 < var_count game i) o h in
-      let l = even both_shares 2 (m / 2) (λ v. refl) in
+      let l = length_each (m / 2) 2 both_shares (λ v. refl) in
       let r : m % 2 < 2 = omega arith in
       let p : length (list_to (m / 2) both_shares) + m % 2 ≡ m = omega (arith, l) in
       rw o (ap (slice_get (list_to (var_count game i) both_shares)) (sym p)
@@ -111,7 +58,7 @@ module _ (game : GameOf) (i k : ℕ) where
   off_past n c h =
       let l = off_length in
       let d : 2 * ((n - 1) / 2) + (n - 1) % 2 ≡ n - 1 = omega arith in
-      get_past (off_lines game i k) n (omega (arith, l, d, c, h))
+      slice_get_past (off_lines game i k) n (omega (arith, l, d, c, h))
 
 module _ (game : GameOf) (leaves : LeavesOf) (i k s : ℕ)
     (size : (l : ℕ) → s ≡ length (off_lines game i l)) (inside : k < leaf_count leaves i) where
@@ -140,7 +87,7 @@ module _ (game : GameOf) (leaves : LeavesOf) (i k s : ℕ)
       let d : s * (n / s) + n % s ≡ n = omega (arith, p) in
       let t : (leaf_count leaves i - 1) * s ≤ (n / s) * s = mul-le-mul_right s (omega (arith, h)) in
       let o = mul_comm (n / s) s in
-      get_past (other_lines game leaves i k) n (omega (arith, l, d, t, o))
+      slice_get_past (other_lines game leaves i k) n (omega (arith, l, d, t, o))
 
   pub other_at : (n l : ℕ) → l < leaf_count leaves i → 0 < s
       → (n / s < k → l ≡ n / s) → (k ≤ n / s → l ≡ n / s + 1)

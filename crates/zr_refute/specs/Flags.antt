@@ -1,4 +1,4 @@
--- Which leaves of a cover are exact, by its nodes.
+-- Which leaves of a cover count as exact, by its nodes.
 use Rattle.std.specs.Prelude.{Bool, true, false, List, [], ◌∷◌, ◌++◌}
 use Rattle.zr_game.specs.Leaves.{LeafOf}
 use Rattle.zr_tree.specs.Nodes.{NodeOf, SplitNode, ChooseNode, ProofNode, KnownNode, LooseNode}

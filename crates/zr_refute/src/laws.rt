@@ -35,8 +35,8 @@ pub fn law_of_no_solutions()
         → RefutesUnder game leaves kind [] t → HasCompleteSolution game leaves kind → ⊥ }
 {}
 
-/// The leaves of right covers hold all of the players' feasible points; the points of an exact leaf
-/// are feasible, and there is one.
+/// The leaves of right covers hold all of the players' feasible points; the points of a leaf that
+/// counts as exact are feasible, and there is one.
 pub fn law_of_covered_points()
     ensures { (game : GameOf) → IsGame game → (trees : List TreeOf) (named : List (List NamedOf))
         → AreRightCovers game trees named → AreCovers game (covered game trees named) }

@@ -17,3 +17,6 @@ pub use room::CaseRoom;
 pub use zr_base::NoMemory;
 pub use zr_cases::{RNode, Refutation};
 pub use zr_tree::Fault;
+
+#[cfg(test)]
+mod tests;

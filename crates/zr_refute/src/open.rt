@@ -120,7 +120,7 @@ fn is_leaf(game: &Game, leaves: &Leaves, i: u32, k: u32) -> bool
     i < player_count(game) && (k as usize) < leaf_count(game, leaves, i)
 }
 
-/// Whether the slot is present in an exact leaf.
+/// Whether the slot is present in a leaf that counts as exact.
 fn is_slot(game: &Game, leaves: &Leaves, i: u32, k: u32, s: u32) -> bool
     requires { AreLeaves (game_of game.now) leaves.now }
     ensures { IsTrue result ↔ SlotExists (game_of game.now) (leaves_of leaves.now) i k s }
@@ -130,7 +130,8 @@ fn is_slot(game: &Game, leaves: &Leaves, i: u32, k: u32, s: u32) -> bool
         && is_present(game, leaves, i as usize, k as usize, s as usize)
 }
 
-/// Whether the slot is present in an exact leaf that has weight on the path, and isn't decided there.
+/// Whether the slot is present in a leaf that counts as exact and has weight on the path, and isn't
+/// decided there.
 pub(crate) fn is_open_slot(
     game: &Game,
     leaves: &Leaves,

@@ -80,7 +80,7 @@ fn regions_over(alloc: Global, game: &Game, covers: &[Tree]) -> Result<Vec<Vec<R
     Ok(lists)
 }
 
-/// The leaves of the cover of player `i`. One at a known point is exact.
+/// The leaves of the cover of player `i`. One at a known point counts as exact.
 fn regions_of(alloc: Global, game: &Game, i: u32, cover: &Tree) -> Result<Vec<Region>, NoMemory>
     requires { i < length (game_of game.now) }
     ensures few { IfOk result (λ list. length list.items < 2 ^ 32) }

@@ -4,7 +4,8 @@ use Rattle.zr_game.specs.declared.choice.Choice.TheVariants.{On}
 use Rattle.zr_system.specs.declared.line.Line.{Line}
 use Rattle.zr_system.specs.Lines.{choice_lines, path_lines}
 use Rattle.zr_system.specs.Regions.{leaves_of}
-use Rattle.zr_refute.proofs.Places.{get_after, get_left, path_found}
+use Rattle.zr_system.proofs.ListPlaces.{get_after, get_left}
+use Rattle.zr_refute.proofs.Places.{path_found}
 use Rattle.zr_refute.proofs.place.path_line.Goals as goal
 
 pub returns-then-left-count : goal.returns-then-left-count
