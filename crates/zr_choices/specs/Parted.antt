@@ -16,14 +16,14 @@ part_terms free t =
     if free t.0 then (place free t.0, t.1) ∷ ((place free t.0 + 1, neg_ℤ t.1) ∷ [])
     else (place free t.0, t.1) ∷ []
 
-abbrev pub all_part_terms : (ℕ → Bool) → Terms → Terms
-all_part_terms free [] = []
-all_part_terms free (t ∷ ts) = part_terms free t ++ all_part_terms free ts
+abbrev pub parted_terms : (ℕ → Bool) → Terms → Terms
+parted_terms free [] = []
+parted_terms free (t ∷ ts) = part_terms free t ++ parted_terms free ts
 
 -- the row over the parts; a strict one is kept by what stands in the last column
 abbrev pub parted : (ℕ → Bool) → ℕ → IneqOf → IneqOf
 parted free unknowns row = record {
-  coef = all_part_terms free row.coef
+  coef = parted_terms free row.coef
       ++ (if row.strict then (place free unknowns, pos 1) ∷ [] else []);
   le = row.le;
   strict = false;

@@ -2,7 +2,14 @@
 #![tactic(auto)]
 
 mod asking;
+mod multiplier;
+mod part;
+mod program;
 mod reply;
+mod row;
+mod sign;
+mod value;
+
 
 pub use asking::ask;
 pub use reply::{ChoiceStop, Reply};
