@@ -52,12 +52,14 @@ hit v j e = let t : (v == j) ≡ true = grind (arith, nat_tests, e) in rw t refl
 strict_by : (row : ℕ → DenseRow) (ts : Terms)
     → value_at ts (λ r. one_if (row r).strict) ≢ pos 0 → uses_strict row ts ≡ true
 strict_by row [] n = absurd (n refl)
-strict_by row (t ∷ ts) n = by (row t.0).strict refl
+strict_by row (t ∷ ts) n = by (row t.0).strict refl (strict_by row ts)
   where
-    by : (b : Bool) → (row t.0).strict ≡ b → (b || uses_strict row ts) ≡ true
-    by true e = refl
-    by false e =
-        strict_by row ts (λ z. n (let o : one_if (row t.0).strict ≡ pos 0 = rw e refl in
+    by : (b : Bool) → (row t.0).strict ≡ b
+        → (value_at ts (λ r. one_if (row r).strict) ≢ pos 0 → uses_strict row ts ≡ true)
+        → (b || uses_strict row ts) ≡ true
+    by true e rest = refl
+    by false e rest =
+        rest (λ z. n (let o : one_if (row t.0).strict ≡ pos 0 = rw e refl in
         let q = ap (λ y. t.1 *ℤ y) o ∙ times_zero t.1 in omega (arith, ints, q, z)))
 
 -- a list with nothing from m on is below m
@@ -128,10 +130,10 @@ module _ (game : GameOf) (leaves : LeavesOf) (path : List Choice) (lp : Lp)
       else coef_at extra (place (is_free game leaves) j)
       *ℤ f (row_of game leaves path (place (is_free game leaves) j))
 
-  term_free : (f : ℕ → ℤ) (j : ℕ) → is_free game leaves j ≡ true → extra_term f j ≡ pos 0
+  pub term_free : (f : ℕ → ℤ) (j : ℕ) → is_free game leaves j ≡ true → extra_term f j ≡ pos 0
   term_free f j e = rw e refl
 
-  term_bound : (f : ℕ → ℤ) (j : ℕ) → is_free game leaves j ≡ false
+  pub term_bound : (f : ℕ → ℤ) (j : ℕ) → is_free game leaves j ≡ false
       → extra_term f j ≡ coef_at extra (place (is_free game leaves) j)
       *ℤ f (row_of game leaves path (place (is_free game leaves) j))
   term_bound f j e = rw e refl
@@ -181,6 +183,12 @@ module _ (game : GameOf) (leaves : LeavesOf) (path : List Choice) (lp : Lp)
         let y = extra_up (place (is_free game leaves) j + 1) in
         (omega (arith, ints, a, b, x, y), omega (arith, ints, a, b, x, y))
 
+    -- a listed extra times the number at its row
+    abbrev extra_product : (ℕ → ℤ) → ℕ → ℤ
+    extra_product f c =
+        coef_at (first_terms (place (is_free game leaves) (length (columns game leaves))) extra) c
+        *ℤ f (row_of game leaves path c)
+
     pub extras_value : (f : ℕ → ℤ)
         → value_at (first_terms (place (is_free game leaves) (length (columns game leaves))) extra)
         (λ k. f (row_of game leaves path k))
@@ -191,30 +199,23 @@ module _ (game : GameOf) (leaves : LeavesOf) (path : List Choice) (lp : Lp)
         (λ k. f (row_of game leaves path k))
         (first_ascends IsNarrow 0 (place (is_free game leaves) (length (columns game leaves)))
         lp.columns extra listed.narrow.1)
-        ∙ sum_columns (is_free game leaves) (length (columns game leaves)) g
+        ∙ sum_columns (is_free game leaves) (length (columns game leaves)) (extra_product f)
         ∙ sum_to_same (length (columns game leaves))
-        (λ j. own_sum (is_free game leaves j) (place (is_free game leaves) j) g) (extra_term f)
+        (λ j. own_sum (is_free game leaves j) (place (is_free game leaves) j) (extra_product f)) (extra_term f)
         (λ j h. each j h)
       where
-        abbrev g : ℕ → ℤ
-        g c = coef_at (first_terms (place (is_free game leaves) (length (columns game leaves))) extra) c
-            *ℤ f (row_of game leaves path c)
-
         coef_is : (c : ℕ) → c < place (is_free game leaves) (length (columns game leaves))
-            → g c ≡ coef_at extra c *ℤ f (row_of game leaves path c)
+            → extra_product f c ≡ coef_at extra c *ℤ f (row_of game leaves path c)
         coef_is c h =
             ap (λ z. z *ℤ f (row_of game leaves path c))
             (first_coef_at (place (is_free game leaves) (length (columns game leaves))) extra c h)
 
         each : (j : ℕ) → j < length (columns game leaves)
-            → own_sum (is_free game leaves j) (place (is_free game leaves) j) g ≡ extra_term f j
+            → own_sum (is_free game leaves j) (place (is_free game leaves) j) (extra_product f) ≡ extra_term f j
         each j h = by (is_free game leaves j) refl
           where
-            c : ℕ
-            c = place (is_free game leaves) j
-
             by : (b : Bool) → is_free game leaves j ≡ b
-                → own_sum (is_free game leaves j) (place (is_free game leaves) j) g ≡ extra_term f j
+                → own_sum (is_free game leaves j) (place (is_free game leaves) j) (extra_product f) ≡ extra_term f j
             by true e =
                 let z = free_extras j h e in
                 let x = coef_is (place (is_free game leaves) j)
@@ -225,13 +226,13 @@ module _ (game : GameOf) (leaves : LeavesOf) (path : List Choice) (lp : Lp)
                 (second_below (is_free game leaves) j (length (columns game leaves)) h e)
                 ∙ ap (λ y. y *ℤ f (row_of game leaves path (place (is_free game leaves) j + 1))) z.1
                 ∙ zero_times (f (row_of game leaves path (place (is_free game leaves) j + 1))) in
-                let o : own_sum (is_free game leaves j) (place (is_free game leaves) j) g
-                ≡ g (place (is_free game leaves) j) +ℤ g (place (is_free game leaves) j + 1) = rw e refl in
+                let o : own_sum (is_free game leaves j) (place (is_free game leaves) j) (extra_product f)
+                ≡ extra_product f (place (is_free game leaves) j) +ℤ extra_product f (place (is_free game leaves) j + 1) = rw e refl in
                 let t = term_free f j e in
                 omega (arith, ints, o, x, y, t)
             by false e =
-                let o : own_sum (is_free game leaves j) (place (is_free game leaves) j) g
-                ≡ g (place (is_free game leaves) j) = rw e refl in
+                let o : own_sum (is_free game leaves j) (place (is_free game leaves) j) (extra_product f)
+                ≡ extra_product f (place (is_free game leaves) j) = rw e refl in
                 o ∙ coef_is (place (is_free game leaves) j)
                 (place_below (is_free game leaves) j (length (columns game leaves)) h)
                 ∙ sym (term_bound f j e)
@@ -268,9 +269,6 @@ module _ (game : GameOf) (leaves : LeavesOf) (path : List Choice) (lp : Lp)
             let z = by (is_free game leaves j) refl in
             omega (arith, ints, v, s, z)
           where
-            f : ℕ → ℤ
-            f r = (row r).coef j
-
             others : (i : ℕ) → i < length (columns game leaves) → i ≢ j
                 → extra_term (λ r. (row r).coef j) i ≡ pos 0
             others i l d =

@@ -265,9 +265,6 @@ module _ (game : GameOf) (leaves : LeavesOf) (path : List Choice) (lp : Lp)
     module _ (basis : ℕ → ℕ) (form : ℕ → ℕ → ℤ) (row : ℕ)
         (is_form : IsBasicForm (program_of lp) basis form) (below : row ≤ length lp.rows.items)
         (negated : Bool) (of : AreOf (program_of lp) (form row) negated mult extra) where
-      abbrev e : ℕ → ℤ
-      e = form row
-
       abbrev sign : ℤ
       sign = sign_of negated
 
@@ -419,14 +416,12 @@ module _ (game : GameOf) (leaves : LeavesOf) (path : List Choice) (lp : Lp)
           → AreDrawn game leaves path list
       drawn_least zero_last =
           drawn_if (λ d slacks. subst (Times d) (sym value_is)
-          (times_neg d total_at (times_sum d (length lp.rows.items)
+          (times_neg d (sum_to (length lp.rows.items)
+          (λ r. form row (lp.columns + r) *ℤ (program_of lp).coef r (place free n)))
+          (times_sum d (length lp.rows.items)
           (λ r. form row (lp.columns + r) *ℤ (program_of lp).coef r (place free n))
           (λ r l. times_mul d ((program_of lp).coef r (place free n)) (form row (lp.columns + r)) (slacks r l)))))
         where
-          total_at : ℤ
-          total_at = sum_to (length lp.rows.items)
-              (λ r. form row (lp.columns + r) *ℤ (program_of lp).coef r (place free n))
-
           value_is : form row (value_column (program_of lp))
               ≡ neg_ℤ (sum_to (length lp.rows.items)
               (λ r. form row (lp.columns + r) *ℤ (program_of lp).coef r (place free n)))

@@ -5,7 +5,7 @@ use Rattle.std.proofs.lemmas.Bool.{cases_eq}
 use Rattle.std.proofs.lemmas.Bool.Decides.{nat_tests}
 use Rattle.std.proofs.lemmas.Int.{ints}
 use Rattle.zr_base.specs.Sums.{sum_to}
-use Rattle.zr_base.proofs.Ring.{spread}
+use Rattle.zr_base.proofs.Ring.{cancel_mul, spread}
 use Rattle.zr_lin.specs.DenseRows.{DenseRow}
 use Rattle.zr_lin.specs.Ineqs.{IneqOf, row_at}
 use Rattle.zr_basis.specs.Programs.{Program}
@@ -36,28 +36,17 @@ one_times z = omega (arith, ints)
 zero_times : (z : ℤ) → pos 0 *ℤ z ≡ pos 0
 zero_times z = omega (arith, ints)
 
-product_zero : (a b : ℤ) → (pos 0) <ℤ b → a *ℤ b ≡ pos 0 → a ≡ pos 0
-product_zero (pos zero) b up e = refl
-product_zero (pos (suc k)) (pos zero) up e = absurd (omega (arith, ints, up))
-product_zero (pos (suc k)) (pos (suc l)) up e = absurd cc
-product_zero (pos (suc k)) (negsuc l) up e = absurd (omega (arith, ints, up))
-product_zero (negsuc k) (pos zero) up e = absurd (omega (arith, ints, up))
-product_zero (negsuc k) (pos (suc l)) up e = absurd cc
-product_zero (negsuc k) (negsuc l) up e = absurd (omega (arith, ints, up))
+pub product_zero : (a b : ℤ) → (pos 0) <ℤ b → a *ℤ b ≡ pos 0 → a ≡ pos 0
+product_zero a (pos zero) up e = absurd (omega (arith, ints, up))
+product_zero a (pos (suc k)) up e =
+    let z : pos 0 *ℤ pos (suc k) ≡ pos 0 = omega (arith, ints) in
+    cancel_mul a (pos 0) (suc k) (omega arith) (e ∙ sym z)
+product_zero a (negsuc k) up e = absurd (omega (arith, ints, up))
 
 module _ (free : ℕ → Bool) (n : ℕ) (rows : List IneqOf) (lp : Lp) (asks : Asks free n rows lp) where
-  abbrev p : Program
-  p = program_of lp
-
-  abbrev t : ℕ
-  t = place free n
-
   -- the slack of the row that the last column is at most 1
   abbrev pub end_slack : ℕ
   end_slack = lp.columns + length rows
-
-  row_number_is : (r c : ℕ) → (program_of lp).coef r c ≡ (row_at (lp_rows lp) r).coef c
-  row_number_is r c = refl
 
   end_coef : (c : ℕ) → c < place free n → (program_of lp).coef (length rows) c ≡ pos 0
   end_coef c h =
@@ -242,9 +231,6 @@ module _ (free : ℕ → Bool) (n : ℕ) (rows : List IneqOf) (lp : Lp) (asks : 
         (low : form row (right_column (program_of lp)) <ℤ (pos 0))
         (up : (pos 0) ≤ℤ form row end_slack)
         (over : form row end_slack ≤ℤ form row (place free n)) where
-      own : ℤ
-      own = form row (basis row)
-
       none_if : (pos 0) <ℤ form row (basis row)
           → ((j : ℕ) → j ≤ right_column (program_of lp)
           → form row (basis row) *ℤ bound j -ℤ bound (basis row) *ℤ form row j ≡ pos 0)
@@ -336,12 +322,6 @@ module _ (free : ℕ → Bool) (n : ℕ) (rows : List IneqOf) (lp : Lp) (asks : 
     -- no multiplier
     module _ (least : (j : ℕ) → j < value_column (program_of lp)
         → form (length lp.rows.items) j ≤ℤ (pos 0)) where
-      top : ℕ → ℤ
-      top = form (length lp.rows.items)
-
-      scale : ℤ
-      scale = form (length lp.rows.items) (value_column (program_of lp))
-
       scale_up : (pos 0) <ℤ form (length lp.rows.items) (value_column (program_of lp))
       scale_up =
           let o = good.own (length lp.rows.items) (omega arith) in
@@ -421,6 +401,17 @@ module _ (free : ℕ → Bool) (n : ℕ) (rows : List IneqOf) (lp : Lp) (asks : 
       module _ (x : ℕ → ℤ) (d : ℤ)
           (solution : IsBasicSolution (program_of lp) basis form x d)
           (at_zero : x (place free n) ≡ pos 0) where
+        slack_off : form (length lp.rows.items) end_slack ≢ pos 0 → (k : ℕ)
+            → k ≤ length lp.rows.items → basis k ≢ end_slack
+        slack_off s k q =
+            ⊎_elim (λ (e : k ≡ length lp.rows.items).
+            let v = ap basis e ∙ good.value in
+            let m = lp_count free n rows lp asks in
+            λ g. omega (arith, v, g, m))
+            (λ (f : k ≢ length lp.rows.items).
+            elsewhere k (length lp.rows.items) q (omega arith) f end_slack s)
+            (cases_eq k (length lp.rows.items))
+
         in_basis : (i : ℕ) → i < length lp.rows.items → place free n ≡ basis i
             → form (length lp.rows.items) end_slack ≢ pos 0 → ⊥
         in_basis i h e s =
@@ -467,17 +458,6 @@ module _ (free : ℕ → Bool) (n : ℕ) (rows : List IneqOf) (lp : Lp) (asks : 
               where
                 off : (k : ℕ) → k ≤ length lp.rows.items → basis k ≢ end_slack
                 off k q = slack_off s k q
-
-        slack_off : form (length lp.rows.items) end_slack ≢ pos 0 → (k : ℕ)
-            → k ≤ length lp.rows.items → basis k ≢ end_slack
-        slack_off s k q =
-            ⊎_elim (λ (e : k ≡ length lp.rows.items).
-            let v = ap basis e ∙ good.value in
-            let m = lp_count free n rows lp asks in
-            λ g. omega (arith, v, g, m))
-            (λ (f : k ≢ length lp.rows.items).
-            elsewhere k (length lp.rows.items) q (omega arith) f end_slack s)
-            (cases_eq k (length lp.rows.items))
 
         pub end_of_least : form (length lp.rows.items) end_slack ≡ pos 0
         end_of_least =

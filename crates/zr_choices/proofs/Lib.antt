@@ -20,3 +20,6 @@ pub mod Closing
 pub mod Mergeable
 pub mod Drawing
 pub mod Replying
+pub mod Renaming
+pub mod Joining
+pub mod Stopping

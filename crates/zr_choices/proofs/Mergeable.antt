@@ -54,51 +54,39 @@ module _ (game : GameOf) (leaves : LeavesOf) (path : List Choice) (lp : Lp)
         λ k apart. ap (λ (d : DenseRow). d.coef k) is ∙ other below k apart,
       )
     where
-      abbrev free : ℕ → Bool
-      free = is_free game leaves
-
-      abbrev n : ℕ
-      n = length (columns game leaves)
-
-      abbrev rows : List IneqOf
-      rows = system_rows game leaves path
-
-      abbrev r : ℕ
-      r = row_of game leaves path (place (is_free game leaves) j)
-
-      inside : r < length rows → (k : ℕ) → k ≢ place free j
-          → (i : ℕ) × (i < n) × ((k ≡ place free i) ⊎ ((free i ≡ true) × (k ≡ place free i + 1)))
-          → (asked free n rows r).coef k ≡ pos 0
+      inside : (row_of game leaves path (place (is_free game leaves) j)) < length (system_rows game leaves path) → (k : ℕ) → k ≢ place (is_free game leaves) j
+          → (i : ℕ) × (i < (length (columns game leaves))) × ((k ≡ place (is_free game leaves) i) ⊎ (((is_free game leaves) i ≡ true) × (k ≡ place (is_free game leaves) i + 1)))
+          → (asked (is_free game leaves) (length (columns game leaves)) (system_rows game leaves path) (row_of game leaves path (place (is_free game leaves) j))).coef k ≡ pos 0
       inside below k apart s =
-          ⊎_elim (λ (e : k ≡ place free s.0).
-          ap (λ (c : ℕ). (asked free n rows r).coef c) e ∙ first_of free n rows r below s.0 s.1
+          ⊎_elim (λ (e : k ≡ place (is_free game leaves) s.0).
+          ap (λ (c : ℕ). (asked (is_free game leaves) (length (columns game leaves)) (system_rows game leaves path) (row_of game leaves path (place (is_free game leaves) j))).coef c) e ∙ first_of (is_free game leaves) (length (columns game leaves)) (system_rows game leaves path) (row_of game leaves path (place (is_free game leaves) j)) below s.0 s.1
           ∙ sign_other game leaves path j s.0 h s.1 f
-          (λ q. apart (e ∙ ap (place free) q)))
-          (λ (e : (free s.0 ≡ true) × (k ≡ place free s.0 + 1)).
-          ap (λ (c : ℕ). (asked free n rows r).coef c) e.1
-          ∙ second_of free n rows r below s.0 s.1 e.0
+          (λ q. apart (e ∙ ap (place (is_free game leaves)) q)))
+          (λ (e : ((is_free game leaves) s.0 ≡ true) × (k ≡ place (is_free game leaves) s.0 + 1)).
+          ap (λ (c : ℕ). (asked (is_free game leaves) (length (columns game leaves)) (system_rows game leaves path) (row_of game leaves path (place (is_free game leaves) j))).coef c) e.1
+          ∙ second_of (is_free game leaves) (length (columns game leaves)) (system_rows game leaves path) (row_of game leaves path (place (is_free game leaves) j)) below s.0 s.1 e.0
           ∙ ap neg_ℤ (sign_other game leaves path j s.0 h s.1 f
-          (λ q. let z : true ≡ false = sym e.0 ∙ ap free q ∙ f in cc)))
+          (λ q. let z : true ≡ false = sym e.0 ∙ ap (is_free game leaves) q ∙ f in cc)))
           s.2
 
-      past_all : r < length rows → (k : ℕ) → place free n + 1 ≤ k
-          → (asked free n rows r).coef k ≡ pos 0
+      past_all : (row_of game leaves path (place (is_free game leaves) j)) < length (system_rows game leaves path) → (k : ℕ) → place (is_free game leaves) (length (columns game leaves)) + 1 ≤ k
+          → (asked (is_free game leaves) (length (columns game leaves)) (system_rows game leaves path) (row_of game leaves path (place (is_free game leaves) j))).coef k ≡ pos 0
       past_all below k l =
-          ap (λ (d : DenseRow). d.coef k) (row_before free n rows r below)
-          ∙ none_from IsNarrow 0 (place free n + 1) (parted free n (get_or rows r none)).coef k
-          (parted_ineq free n (get_or rows r none) (form r none below)).0 l
+          ap (λ (d : DenseRow). d.coef k) (row_before (is_free game leaves) (length (columns game leaves)) (system_rows game leaves path) (row_of game leaves path (place (is_free game leaves) j)) below)
+          ∙ none_from IsNarrow 0 (place (is_free game leaves) (length (columns game leaves)) + 1) (parted (is_free game leaves) (length (columns game leaves)) (get_or (system_rows game leaves path) (row_of game leaves path (place (is_free game leaves) j)) none)).coef k
+          (parted_ineq (is_free game leaves) (length (columns game leaves)) (get_or (system_rows game leaves path) (row_of game leaves path (place (is_free game leaves) j)) none) (form (row_of game leaves path (place (is_free game leaves) j)) none below)).0 l
 
-      other : r < length rows → (k : ℕ) → k ≢ place free j
-          → (asked free n rows r).coef k ≡ pos 0
+      other : (row_of game leaves path (place (is_free game leaves) j)) < length (system_rows game leaves path) → (k : ℕ) → k ≢ place (is_free game leaves) j
+          → (asked (is_free game leaves) (length (columns game leaves)) (system_rows game leaves path) (row_of game leaves path (place (is_free game leaves) j))).coef k ≡ pos 0
       other below k apart =
-          ⊎_elim (λ (l : k < place free n). inside below k apart (column_of free n k l))
-          (λ (l : place free n ≤ k). ⊎_elim
-          (λ (e : k ≡ place free n). ap (λ (c : ℕ). (asked free n rows r).coef c) e
-          ∙ last_of free n rows r below form
+          ⊎_elim (λ (l : k < place (is_free game leaves) (length (columns game leaves))). inside below k apart (column_of (is_free game leaves) (length (columns game leaves)) k l))
+          (λ (l : place (is_free game leaves) (length (columns game leaves)) ≤ k). ⊎_elim
+          (λ (e : k ≡ place (is_free game leaves) (length (columns game leaves))). ap (λ (c : ℕ). (asked (is_free game leaves) (length (columns game leaves)) (system_rows game leaves path) (row_of game leaves path (place (is_free game leaves) j))).coef c) e
+          ∙ last_of (is_free game leaves) (length (columns game leaves)) (system_rows game leaves path) (row_of game leaves path (place (is_free game leaves) j)) below form
           ∙ ap one_if (sign_weak game leaves path j h f))
-          (λ (e : k ≢ place free n). past_all below k (omega (arith, l, e)))
-          (cases_eq k (place free n)))
-          (below_or k (place free n))
+          (λ (e : k ≢ place (is_free game leaves) (length (columns game leaves))). past_all below k (omega (arith, l, e)))
+          (cases_eq k (place (is_free game leaves) (length (columns game leaves)))))
+          (below_or k (place (is_free game leaves) (length (columns game leaves))))
 
   -- its multiplier and the column's extra aren't both listed
   pub sign_apart : (j : ℕ) → j < length (columns game leaves) → is_free game leaves j ≡ false
@@ -157,7 +145,9 @@ module _ (game : GameOf) (leaves : LeavesOf) (path : List Choice) (lp : Lp)
         (λ (q : y.0 ≢ x.0). let p = place_below (is_free game leaves) y.0 x.0 (omega (arith, h, q)) in
         omega (arith, e, f, p, less)) (cases_eq y.0 x.0))) (below_or x.0 y.0) in
         let r = rows_rise game leaves path x.0 y.0 order y.1 x.2 y.2 in
-        rw (e, f) r
+        let v = ap (row_of game leaves path) e in
+        let w = ap (row_of game leaves path) f in
+        omega (arith, r, v, w)
 
     pub extras_apart : (k : ℕ) → k < place (is_free game leaves) (length (columns game leaves))
         → coef_at extra k ≢ pos 0 → coef_at mult (row_of game leaves path k) ≡ pos 0

@@ -166,9 +166,6 @@ module _ (game : GameOf) (leaves : LeavesOf) (path : List Choice) (q : Question)
         from_parts : (j : ℕ) → j < n → joined free (num_of point) j ≡ joined free basic.all j
         from_parts j h = by (is_free game leaves j) refl
           where
-            w : q.lp.columns ≡ t + 1
-            w = is.asks.width
-
             first : num_of point (place free j) ≡ basic.all (place free j)
             first =
                 let p = place_below free j n h in

@@ -3,6 +3,7 @@ use Rattle.std.proofs.Common.{◌≡◌, ◌≢◌, ℕ, zero, suc, ◌+◌, ◌
 use Rattle.std.proofs.lemmas.Bool.Decides.{nat_tests}
 use Rattle.std.proofs.lemmas.Int.{ints}
 use Rattle.std.proofs.lemmas.List.{get_or-map, length-map}
+use Rattle.zr_base.specs.Terms.{coef_at}
 use Rattle.zr_lin.specs.DenseRows.{DenseRow}
 use Rattle.zr_lin.specs.Ineqs.{IneqOf, dense, row_at}
 use Rattle.zr_game.specs.Players.{GameOf}
@@ -15,7 +16,7 @@ use Rattle.zr_system.specs.Asked.{no_line}
 use Rattle.zr_system.specs.Forms.{FormRow, at_most_0, is_same, minus, number_at, of, only}
 use Rattle.zr_system.specs.Lines.{all_lines, base_lines, row_of_line}
 use Rattle.zr_system.specs.Regions.{LeavesOf}
-use Rattle.zr_system.specs.System.{ineq_over, system_rows}
+use Rattle.zr_system.specs.System.{ineq_over, system_rows, terms_from}
 use Rattle.zr_system.specs.Unknowns.{columns}
 use Rattle.zr_system.proofs.ColumnForms.{coef_listed}
 use Rattle.zr_system.proofs.Expansion.{same_is, same_self}
@@ -96,6 +97,10 @@ module _ (game : GameOf) (leaves : LeavesOf) (path : List Choice) where
   count =
       sym (count_same is_sign 0 ls) ∙ sym (length-map (passing is_sign ls) sign_unknown)
       ∙ ap (λ (ws : List Unknown). length ws) (all_kept game leaves path) ∙ count_same is_up 0 us
+
+  pub base_count : length (numbers_of is_up 0 us) ≡ length (sign_rows (base_lines game leaves))
+  base_count =
+      sym count ∙ ap (λ (rs : List ℕ). length rs) (same_signs game leaves path)
 
   -- row number m of these is that of unknown number m of these
   names : (m : ℕ) → m < length signs
@@ -179,12 +184,6 @@ module _ (game : GameOf) (leaves : LeavesOf) (path : List Choice) where
       ≡ keeps_up (get_or ls r no_line) (get_or us j One)
   keeps r j h q f = by (is_sign (get_or ls r no_line)) refl ∙ sym (keeps_up_is (get_or ls r no_line) (get_or us j One))
     where
-      line : Line
-      line = get_or ls r no_line
-
-      at : ℕ
-      at = row_of (place (is_free game leaves) j)
-
       inner : (b : Bool) → is_sign (get_or ls r no_line) ≡ true
           → is_same (sign_unknown (get_or ls r no_line)) (get_or us j One) ≡ b
           → (row_of (place (is_free game leaves) j) == r) ≡ b
@@ -250,8 +249,11 @@ module _ (game : GameOf) (leaves : LeavesOf) (path : List Choice) where
       → (row_at (system_rows game leaves path) (row_of (place (is_free game leaves) j))).coef c
       ≡ negsuc 0 *ℤ only (get_or us c One) (get_or us j One)
   sign_coef j c h q f =
+      let o : 0 + c ≡ c = omega arith in
       ap (λ (row : DenseRow). row.coef c) (sign_dense j h f)
-      ∙ coef_listed (minus (of (get_or us j One))) 0 us c q
+      ∙ subst (λ (i : ℕ). coef_at (terms_from 0 us (minus (of (get_or us j One)))) i
+      ≡ number_at (minus (of (get_or us j One))) (get_or us c One)) o
+      (coef_listed (minus (of (get_or us j One))) 0 us c q)
 
   pub sign_own : (j : ℕ) → j < length us → is_free game leaves j ≡ false
       → (row_at (system_rows game leaves path) (row_of (place (is_free game leaves) j))).coef j

@@ -10,6 +10,8 @@ mod row;
 mod sign;
 mod value;
 
+#[cfg(test)]
+mod tests;
 
 pub use asking::ask;
 pub use reply::{ChoiceStop, Reply};
