@@ -1,27 +1,27 @@
 -- The rows of a program that asks, and what its multipliers make of them.
-use Rattle.std.proofs.Common.{◌≡◌, ◌≢◌, ℕ, zero, suc, ◌+◌, ◌<◌, arith, refl, sym, ap, ap₂, subst, ◌∙◌, add-one, ℤ, pos, negsuc, neg_ℤ, ◌+ℤ◌, ◌*ℤ◌, ◌≤ℤ◌, ◌<ℤ◌, Bool, true, false, if◌then◌else◌, Option, Some, None, List, [], ◌∷◌, map, length, get_or, All, ◌⊎◌, ⊎_elim, inl, inr}
+use Rattle.std.proofs.Common.{◌≡◌, ◌≢◌, ℕ, zero, suc, ◌+◌, ◌<◌, arith, refl, sym, ap, ap₂, subst, ◌∙◌, add-one, ℤ, pos, neg_ℤ, ◌+ℤ◌, ◌*ℤ◌, ◌≤ℤ◌, Bool, true, false, if◌then◌else◌, List, [], ◌∷◌, map, length, get_or, All}
 use Rattle.std.proofs.Math.ListN.{get_or-append}
 use Rattle.std.proofs.Math.Seq.{get_or-append_seam}
 use Rattle.std.proofs.lemmas.List.{get_or-map, length-map, length-append}
 use Rattle.std.proofs.lemmas.Int.{ints}
 use Rattle.zr_base.specs.Sums.{sum_products, sum_to}
-use Rattle.zr_base.specs.Terms.{Terms, AscendWith, coef_at}
-use Rattle.zr_base.specs.Points.{PointOf, num_of}
+use Rattle.zr_base.specs.Terms.{Terms, coef_at}
+use Rattle.zr_base.specs.Points.{PointOf}
 use Rattle.zr_base.specs.Steps.{IsNarrow}
-use Rattle.zr_base.proofs.Ring.{mul-add_right, neg-mul_right, cancel_mul}
-use Rattle.zr_base.proofs.Dense.{sum_to_same, sum_to-add}
-use Rattle.zr_lin.specs.DenseRows.{DenseRow, AreMultipliers, Refutes, uses_strict}
+use Rattle.zr_base.proofs.Ring.{neg-mul_right}
+use Rattle.zr_base.proofs.Dense.{sum_to_same}
+use Rattle.zr_lin.specs.DenseRows.{DenseRow, AreMultipliers}
 use Rattle.zr_lin.specs.Ineqs.{IneqOf, IneqHolds, IsIneq, ineq_of, dense, row_at}
 use Rattle.zr_simplex.specs.declared.program.Lp.{Lp}
 use Rattle.zr_basis.specs.Programs.{aim_at}
 use Rattle.zr_simplex.specs.Programs.{program_of, lp_rows, numbers}
-use Rattle.zr_simplex.specs.Answers.{weighed, IsBest, IsEmpty, IsUnbounded}
-use Rattle.zr_choices.proofs.Sums.{sum_to-single, sum_to-all_zero}
+use Rattle.zr_simplex.specs.Answers.{weighed, IsUnbounded}
+use Rattle.zr_choices.proofs.Sums.{sum_to-single}
 use Rattle.zr_choices.specs.Parted.{place, parted, at_most_1, parted_rows}
 use Rattle.zr_choices.specs.Asking.{Asks}
 use Rattle.zr_choices.proofs.Places.{place_below, second_below}
 use Rattle.zr_choices.proofs.Coefs.{here, past, first_coef, second_coef, last_coef}
-use Rattle.zr_choices.proofs.Weighing.{weighed_sum, from_zero, strict_used, some_place}
+use Rattle.zr_choices.proofs.Weighing.{weighed_sum}
 
 abbrev pub none : IneqOf
 none = record { coef = []; le = pos 0; strict = false }

@@ -1,20 +1,19 @@
 -- Merged multipliers refute the system's rows.
-use Rattle.std.proofs.Common.{◌≡◌, ◌≢◌, ℕ, zero, suc, ◌+◌, ◌<◌, ◌≤◌, ◌==◌, arith, refl, sym, ap, ap₂, subst, ◌∙◌, add-one, ℤ, pos, negsuc, neg_ℤ, ◌+ℤ◌, ◌*ℤ◌, ◌<ℤ◌, ◌≤ℤ◌, Bool, true, false, if◌then◌else◌, ◌||◌, List, [], ◌∷◌, map, length, get_or, All, ◌⊎◌, inl, inr, ⊎_elim}
+use Rattle.std.proofs.Common.{◌≡◌, ◌≢◌, ℕ, ◌+◌, ◌<◌, ◌≤◌, ◌==◌, arith, refl, sym, ap, ap₂, subst, ◌∙◌, add-one, ℤ, pos, negsuc, neg_ℤ, ◌+ℤ◌, ◌*ℤ◌, ◌<ℤ◌, ◌≤ℤ◌, Bool, true, false, if◌then◌else◌, ◌||◌, List, [], ◌∷◌, length, All, ◌⊎◌, inl, inr, ⊎_elim}
 use Rattle.std.proofs.lemmas.Bool.{cases_eq}
 use Rattle.std.proofs.lemmas.Bool.Decides.{nat_tests}
 use Rattle.std.proofs.lemmas.Int.{ints}
-use Rattle.zr_base.specs.Sums.{sum_products, sum_to}
+use Rattle.zr_base.specs.Sums.{sum_to}
 use Rattle.zr_base.specs.Steps.{IsNarrow}
-use Rattle.zr_base.specs.Terms.{Ascends, AscendWith, Terms, coef_at, value_at}
-use Rattle.zr_base.proofs.Dense.{sum_to_same, sum_to_zero, value_dense}
+use Rattle.zr_base.specs.Terms.{AscendWith, Terms, coef_at, value_at}
+use Rattle.zr_base.proofs.Dense.{sum_to_same, value_dense}
 use Rattle.zr_lin.specs.DenseRows.{AreMultipliers, DenseRow, Refutes, uses_strict}
-use Rattle.zr_lin.specs.Ineqs.{IneqOf, IsIneq, row_at}
+use Rattle.zr_lin.specs.Ineqs.{IsIneq, row_at}
 use Rattle.zr_game.specs.Players.{GameOf}
 use Rattle.zr_game.specs.Leaves.{at_column}
 use Rattle.zr_game.specs.declared.choice.Choice.{Choice}
 use Rattle.zr_simplex.specs.declared.program.Lp.{Lp}
 use Rattle.zr_simplex.specs.Answers.{AreListed, weighed}
-use Rattle.zr_simplex.specs.Programs.{lp_rows}
 use Rattle.zr_system.specs.Regions.{LeavesOf}
 use Rattle.zr_system.specs.System.{system_rows}
 use Rattle.zr_system.specs.Unknowns.{columns}
@@ -24,10 +23,10 @@ use Rattle.zr_choices.specs.Asking.{Asks}
 use Rattle.zr_choices.specs.Merging.{first_terms}
 use Rattle.zr_choices.specs.Parted.{place}
 use Rattle.zr_choices.specs.Programs.{is_free}
-use Rattle.zr_choices.proofs.AskedRows.{lp_count, one_if, rights, summed, total, total_first, total_last, total_right, total_second, weighed_column, weighed_right}
+use Rattle.zr_choices.proofs.AskedRows.{lp_count, one_if, total, total_first, total_last, total_right, total_second, weighed_column, weighed_right}
 use Rattle.zr_choices.proofs.Coefs.{here, past}
 use Rattle.zr_choices.proofs.ColumnSums.{own_sum, sum_columns}
-use Rattle.zr_choices.proofs.FirstTerms.{first_ascends, first_coef_at, none_from}
+use Rattle.zr_choices.proofs.FirstTerms.{first_ascends, first_coef_at}
 use Rattle.zr_choices.proofs.Places.{place_below, second_below}
 use Rattle.zr_choices.proofs.SignPlaces.{row_count, row_of, sign_at, sign_other, sign_own, sign_right, sign_weak}
 use Rattle.zr_choices.proofs.Sums.{sum_to-all_zero, sum_to-single}
@@ -350,10 +349,10 @@ module _ (game : GameOf) (leaves : LeavesOf) (path : List Choice) (lp : Lp)
             let e = products_value list (λ r. (row r).le) in (
               λ j h. products_value list (λ r. (row r).coef j) ∙ column_zero j h,
               ⊎_elim (λ (a : value_at list (λ r. (row r).le) <ℤ (pos 0)).
-              inl (omega (arith, ints, a, e)))
-              (λ (a : (value_at list (λ r. (row r).le) ≡ pos 0)
-              × (uses_strict (row_at (system_rows game leaves path)) list ≡ true)).
-              inr (e ∙ a.0, a.1)) right,
+                  inl (omega (arith, ints, a, e)))
+                  (λ (a : (value_at list (λ r. (row r).le) ≡ pos 0)
+                  × (uses_strict (row_at (system_rows game leaves path)) list ≡ true)).
+                  inr (e ∙ a.0, a.1)) right,
             )
 
         right_is : (weighed lp mult).le ≡ value_at list (λ r. (row r).le)
@@ -382,5 +381,8 @@ module _ (game : GameOf) (leaves : LeavesOf) (path : List Choice) (lp : Lp)
             let t = total_last (is_free game leaves) (length (columns game leaves))
             (system_rows game leaves path) mult good form in
             let s = strict_same in
-            refutes_by (inr (sym e ∙ zero_right, strict_by (row_at (system_rows game leaves path)) list
-            (λ z. omega (arith, ints, w, t, s, end, above, z))))
+            refutes_by (inr (
+              sym e ∙ zero_right,
+              strict_by (row_at (system_rows game leaves path)) list
+                  (λ z. omega (arith, ints, w, t, s, end, above, z)),
+            ))

@@ -1,5 +1,5 @@
 -- The merged multipliers are in proportion to an equation, without a common divisor.
-use Rattle.std.proofs.Common.{◌≡◌, ◌≢◌, ℕ, zero, suc, ◌+◌, ◌*◌, ◌<◌, ◌≤◌, ◌==◌, arith, refl, sym, ap, ap₂, subst, ◌∙◌, ℤ, pos, negsuc, neg_ℤ, ◌+ℤ◌, ◌-ℤ◌, ◌*ℤ◌, Bool, true, false, cond, if◌then◌else◌, List, [], ◌∷◌, length, get_or, unsigned_abs, All, ◌⊎◌, inl, inr, ⊎_elim}
+use Rattle.std.proofs.Common.{◌≡◌, ◌≢◌, ℕ, zero, suc, ◌+◌, ◌*◌, ◌<◌, ◌≤◌, ◌==◌, arith, refl, sym, ap, ap₂, subst, ◌∙◌, ℤ, pos, negsuc, neg_ℤ, ◌+ℤ◌, ◌*ℤ◌, Bool, true, false, cond, if◌then◌else◌, List, length, get_or, unsigned_abs, All, ⊎_elim}
 use Rattle.std.specs.Int.{◌∣◌}
 use Rattle.std.proofs.Math.Nat.{dvd-mul_left}
 use Rattle.std.proofs.Math.IntN.{*ℤ_comm}
@@ -14,13 +14,13 @@ use Rattle.zr_base.proofs.Divisors.{quot_exact}
 use Rattle.zr_base.proofs.Ring.{mul-add_left, mul-add_right, mul_assoc, neg-mul_left}
 use Rattle.zr_lin.specs.Ineqs.{IneqOf, IsIneq, ineq_of, row_at}
 use Rattle.zr_basis.specs.Programs.{Program}
-use Rattle.zr_basis.specs.BasicForms.{CombinesEquations, IsBasicForm, right_column, value_column}
+use Rattle.zr_basis.specs.BasicForms.{IsBasicForm, right_column, value_column}
 use Rattle.zr_game.specs.Players.{GameOf}
 use Rattle.zr_game.specs.Leaves.{at_column}
 use Rattle.zr_game.specs.declared.choice.Choice.{Choice}
 use Rattle.zr_simplex.specs.declared.program.Lp.{Lp}
 use Rattle.zr_simplex.specs.Answers.{AreListed, AreOf, signed, weighed}
-use Rattle.zr_simplex.specs.Programs.{IsLp, lp_rows, numbers, program_of}
+use Rattle.zr_simplex.specs.Programs.{IsLp, numbers, program_of}
 use Rattle.zr_system.specs.declared.unknown.Unknown.TheVariants.{One}
 use Rattle.zr_system.specs.Asked.{no_line}
 use Rattle.zr_system.specs.Lines.{all_lines}
@@ -35,9 +35,7 @@ use Rattle.zr_choices.specs.Merging.{first_terms}
 use Rattle.zr_choices.specs.Parted.{parted_rows, place}
 use Rattle.zr_choices.specs.Programs.{choices_program, is_free, last_column, last_raised}
 use Rattle.zr_choices.proofs.AskedRows.{lp_count}
-use Rattle.zr_choices.proofs.Closing.{extra_term, free_extras, hit, no_hit, number_in, term_bound, term_free}
-use Rattle.zr_choices.proofs.ColumnSums.{column_of}
-use Rattle.zr_choices.proofs.LastColumn.{unit_apart, unit_here}
+use Rattle.zr_choices.proofs.Closing.{extra_term, hit, no_hit, number_in, term_bound, term_free}
 use Rattle.zr_choices.proofs.Mergeable.{sign_apart, zero_or}
 use Rattle.zr_choices.proofs.Places.{place_below}
 use Rattle.zr_choices.proofs.SignPlaces.{keeps, keeps_none, row_count, row_of, rows_rise, sign_at}

@@ -1,8 +1,7 @@
 -- The items of a list whose numbers are below a number.
-use Rattle.std.proofs.Common.{◌≡◌, ◌≢◌, ℕ, zero, suc, ◌+◌, ◌<◌, ◌≤◌, ◌==◌, nat_lt, arith, refl, sym, ap, ◌∙◌, ℤ, pos, ◌≤ℤ◌, Bool, true, false, if◌then◌else◌, List, [], ◌∷◌, ⊎_elim}
+use Rattle.std.proofs.Common.{◌≡◌, ◌≢◌, ℕ, ◌+◌, ◌<◌, ◌≤◌, nat_lt, arith, refl, sym, ◌∙◌, ℤ, pos, Bool, true, false, if◌then◌else◌, [], ◌∷◌, ⊎_elim}
 use Rattle.std.proofs.lemmas.Bool.{cases_eq}
 use Rattle.std.proofs.lemmas.Bool.Decides.{nat_tests}
-use Rattle.std.proofs.lemmas.Int.{ints}
 use Rattle.zr_base.specs.Terms.{AscendWith, Terms, coef_at}
 use Rattle.zr_choices.specs.Merging.{first_terms}
 use Rattle.zr_choices.proofs.Coefs.{here, past}

@@ -1,5 +1,5 @@
 -- The unknowns' numbers one by one.
-use Rattle.std.proofs.Common.{◌≡◌, ℕ, ◌+◌, refl, ap, ap₂, sym, ◌∙◌, add-one, ℤ, ◌-ℤ◌, Bool, true, false, if◌then◌else◌, List, [], ◌∷◌, ◌++◌}
+use Rattle.std.proofs.Common.{◌≡◌, ℕ, ◌+◌, refl, ap, ap₂, sym, ◌∙◌, add-one, ℤ, ◌-ℤ◌, Bool, if◌then◌else◌, List, [], ◌∷◌, ◌++◌}
 use Rattle.zr_system.specs.Asked.{firsts}
 use Rattle.zr_choices.specs.Parted.{joined, place}
 

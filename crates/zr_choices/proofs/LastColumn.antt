@@ -7,12 +7,11 @@ use Rattle.std.proofs.lemmas.Int.{ints}
 use Rattle.zr_base.specs.Sums.{sum_to}
 use Rattle.zr_base.proofs.Ring.{cancel_mul, spread}
 use Rattle.zr_lin.specs.DenseRows.{DenseRow}
-use Rattle.zr_lin.specs.Ineqs.{IneqOf, row_at}
-use Rattle.zr_basis.specs.Programs.{Program}
+use Rattle.zr_lin.specs.Ineqs.{IneqOf}
 use Rattle.zr_basis.specs.BasicForms.{CombinesEquations, IsBasicForm, IsBasicSolution, right_column, value_column}
 use Rattle.zr_basis.proofs.Unique.{determined, mixed}
 use Rattle.zr_simplex.specs.declared.program.Lp.{Lp}
-use Rattle.zr_simplex.specs.Programs.{lp_rows, numbers, program_of}
+use Rattle.zr_simplex.specs.Programs.{numbers, program_of}
 use Rattle.zr_choices.specs.Asking.{Asks}
 use Rattle.zr_choices.specs.Parted.{place}
 use Rattle.zr_choices.proofs.AskedRows.{last_apart, last_here, last_right, lp_count, rows_are}

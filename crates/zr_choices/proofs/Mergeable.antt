@@ -1,17 +1,15 @@
 -- The extras of columns may be merged into the multipliers of rows.
-use Rattle.std.proofs.Common.{◌≡◌, ◌≢◌, ℕ, zero, suc, ◌+◌, ◌<◌, ◌≤◌, arith, refl, sym, ap, subst, ◌∙◌, ℤ, pos, negsuc, neg_ℤ, Bool, true, false, List, length, get_or, All, slice_index, ◌⊎◌, inl, inr, ⊎_elim}
+use Rattle.std.proofs.Common.{◌≡◌, ◌≢◌, ℕ, zero, suc, ◌+◌, ◌<◌, ◌≤◌, arith, refl, sym, ap, ◌∙◌, ℤ, pos, negsuc, neg_ℤ, Bool, true, false, List, length, get_or, All, ◌⊎◌, inl, inr, ⊎_elim}
 use Rattle.std.proofs.lemmas.Bool.{cases_eq}
-use Rattle.std.proofs.lemmas.Int.{ints}
 use Rattle.zr_base.specs.Steps.{IsNarrow}
 use Rattle.zr_base.specs.Terms.{Terms, coef_at}
 use Rattle.zr_lin.specs.DenseRows.{DenseRow}
-use Rattle.zr_lin.specs.Ineqs.{IneqOf, IsIneq, row_at}
+use Rattle.zr_lin.specs.Ineqs.{IsIneq, row_at}
 use Rattle.zr_game.specs.Players.{GameOf}
 use Rattle.zr_game.specs.declared.choice.Choice.{Choice}
 use Rattle.zr_simplex.specs.declared.program.Lp.{Lp}
 use Rattle.zr_simplex.specs.Answers.{AreListed, IsLow, weighed}
 use Rattle.zr_simplex.specs.Programs.{lp_rows}
-use Rattle.zr_system.specs.Lines.{all_lines}
 use Rattle.zr_system.specs.Regions.{LeavesOf}
 use Rattle.zr_system.specs.System.{system_rows}
 use Rattle.zr_system.specs.Unknowns.{columns}

@@ -1,5 +1,5 @@
 -- The extras of columns as multipliers of rows.
-use Rattle.std.proofs.Common.{◌≡◌, ◌≢◌, ℕ, ◌+◌, ◌<◌, ◌≤◌, arith, refl, sym, ap, ◌∙◌, ℤ, pos, ◌+ℤ◌, List, [], ◌∷◌, ◌++◌, length, slice_index, nat_lt, Bool, true, false, if◌then◌else◌, ⊎_elim}
+use Rattle.std.proofs.Common.{◌≡◌, ◌≢◌, ℕ, ◌+◌, ◌<◌, arith, sym, ap, ◌∙◌, ℤ, pos, List, length, slice_index, ⊎_elim}
 use Rattle.zr_base.specs.Terms.{Terms, coef_at, value_at}
 use Rattle.zr_branch.specs.Merged.{AreAtLeastOne, IsMultiplier, renamed}
 use Rattle.zr_branch.proofs.Merging.{named_at, renamed_ascends, value_renamed}

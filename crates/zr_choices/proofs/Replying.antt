@@ -1,5 +1,5 @@
 -- A program's answer in terms of the system's unknowns and rows.
-use Rattle.std.proofs.Common.{◌≡◌, ◌≢◌, ℕ, zero, suc, ◌+◌, ◌-◌, ◌*◌, ◌<◌, ◌≤◌, arith, refl, sym, ap, ap₂, subst, ◌∙◌, ℤ, pos, negsuc, neg_ℤ, ◌+ℤ◌, ◌*ℤ◌, ◌<ℤ◌, ◌≤ℤ◌, Bool, true, false, List, [], ◌∷◌, ◌++◌, length, get_or, slice_index, All, ◌⊎◌, inl, inr, ⊎_elim}
+use Rattle.std.proofs.Common.{◌≡◌, ◌≢◌, ℕ, zero, suc, ◌+◌, ◌-◌, ◌<◌, ◌≤◌, arith, refl, sym, ap, ap₂, subst, ◌∙◌, ℤ, pos, negsuc, neg_ℤ, ◌+ℤ◌, ◌*ℤ◌, ◌<ℤ◌, ◌≤ℤ◌, Bool, true, false, List, [], ◌∷◌, ◌++◌, length, get_or, slice_index, ⊎_elim}
 use Rattle.std.proofs.Math.ListN.{get_or-append}
 use Rattle.std.proofs.Math.Seq.{get_or-append_seam}
 use Rattle.std.proofs.lemmas.Bool.{cases_eq}
@@ -9,16 +9,15 @@ use Rattle.zr_base.specs.Points.{PointOf, num_of}
 use Rattle.zr_base.specs.Steps.{IsNarrow}
 use Rattle.zr_base.specs.Sums.{sum_to}
 use Rattle.zr_base.specs.Terms.{AscendWith, Terms, coef_at, value_at}
-use Rattle.zr_lin.specs.DenseRows.{IsBelow, Refutes}
-use Rattle.zr_lin.specs.Ineqs.{IneqHolds, IneqOf, IsIneq, Solves, row_at}
-use Rattle.zr_basis.specs.BasicForms.{IsBasicForm, IsBasicSolution, value_column}
+use Rattle.zr_lin.specs.DenseRows.{Refutes}
+use Rattle.zr_lin.specs.Ineqs.{IneqOf, Solves, row_at}
+use Rattle.zr_basis.specs.BasicForms.{IsBasicForm, IsBasicSolution}
 use Rattle.zr_basis.specs.Programs.{Program, aim_at}
 use Rattle.zr_game.specs.Players.{GameOf}
 use Rattle.zr_game.specs.declared.choice.Choice.{Choice}
-use Rattle.zr_cases.specs.Forms.{AreCounted}
 use Rattle.zr_simplex.specs.Answers.{AreListed, AreOf, IsBasicPoint, IsBest, IsEmpty, IsFeasiblePoint, signed, weighed}
 use Rattle.zr_simplex.specs.Ends.{IsEmptyAt, IsLeastAt}
-use Rattle.zr_simplex.specs.Programs.{lp_rows, numbers, program_of}
+use Rattle.zr_simplex.specs.Programs.{program_of}
 use Rattle.zr_system.specs.Asked.{firsts}
 use Rattle.zr_system.specs.Lines.{all_lines}
 use Rattle.zr_system.specs.Regions.{LeavesOf}
@@ -27,13 +26,12 @@ use Rattle.zr_system.specs.Unknowns.{columns}
 use Rattle.zr_branch.specs.Merged.{AreAtLeastOne, IsMultiplier}
 use Rattle.zr_branch.proofs.Listing.{both_ascend}
 use Rattle.zr_choices.specs.declared.asking.Question.{Question}
-use Rattle.zr_choices.specs.Drawn.{AreDrawn, IsChoicesSolution}
+use Rattle.zr_choices.specs.Drawn.{AreDrawn}
 use Rattle.zr_choices.specs.Merging.{AreRows, first_terms}
 use Rattle.zr_choices.specs.Parted.{joined, parted_rows, place}
 use Rattle.zr_choices.specs.Programs.{choices_program, free_in, is_free}
 use Rattle.zr_choices.specs.Questions.{IsQuestionUnder}
 use Rattle.zr_choices.specs.Replies.{IsRefutedBy, IsSolvedBy}
-use Rattle.zr_choices.specs.Signs.{spread}
 use Rattle.zr_choices.proofs.AskedRows.{aim_last, lp_count, one_if, total_last, weighed_column}
 use Rattle.zr_choices.proofs.Closing.{closes_low, closes_strict, good, list_multipliers, list_form, mult_up}
 use Rattle.zr_choices.proofs.Drawing.{drawn_empty, drawn_least, program_same}
@@ -261,8 +259,11 @@ module _ (game : GameOf) (leaves : LeavesOf) (path : List Choice) (q : Question)
           → IsRefutedBy game leaves path list
       refuted refutes drawn = record {
         counted = (are, few_items);
-        closes = (list_multipliers game leaves path q.lp is.asks is.form mult extra listed columns_are
-            end list are sums_are, refutes);
+        closes = (
+          list_multipliers game leaves path q.lp is.asks is.form mult extra listed columns_are
+              end list are sums_are,
+          refutes,
+        );
         drawn = drawn;
       }
         where

@@ -1,12 +1,12 @@
 -- The rows that say that an unknown is at least 0 stand in the order of these unknowns.
-use Rattle.std.proofs.Common.{◌≡◌, ℕ, zero, suc, ◌<◌, arith, refl, sym, ap, ap₂, ◌∙◌, Bool, true, false, if◌then◌else◌, ◌==◌, List, [], ◌∷◌, ◌++◌, map, length, append-nil}
+use Rattle.std.proofs.Common.{◌≡◌, ℕ, zero, suc, refl, sym, ap, ap₂, ◌∙◌, Bool, true, false, if◌then◌else◌, ◌==◌, List, [], ◌∷◌, ◌++◌, map, length, append-nil}
 use Rattle.zr_game.specs.Players.{GameOf}
 use Rattle.zr_game.specs.declared.choice.Choice.{Choice}
 use Rattle.zr_game.specs.declared.choice.Choice.TheVariants as AChoice
 use Rattle.zr_system.specs.declared.line.Line.{Line}
 use Rattle.zr_system.specs.declared.line.Line.TheVariants as ALine
 use Rattle.zr_system.specs.declared.unknown.Unknown.{Unknown}
-use Rattle.zr_system.specs.declared.unknown.Unknown.TheVariants.{One, Worth, Share, Weight, Dual}
+use Rattle.zr_system.specs.declared.unknown.Unknown.TheVariants.{One, Share, Weight, Dual}
 use Rattle.zr_system.specs.Lines.{all_lines, base_lines, choice_lines, dual_lines, leaf_lines, off_lines, other_lines, path_lines, player_lines, pull_lines, reach_lines, slot_lines}
 use Rattle.zr_system.specs.Regions.{LeavesOf, is_exact, is_present, leaf_count, named_at, slot_count, var_count}
 use Rattle.zr_system.specs.Unknowns.{columns, duals, leaf_unknowns, list_to, player_unknowns, shares}

@@ -1,17 +1,16 @@
 -- Which row says of an unknown that it is at least 0.
-use Rattle.std.proofs.Common.{◌≡◌, ◌≢◌, ℕ, zero, suc, ◌+◌, ◌<◌, ◌==◌, ◌&&◌, arith, refl, sym, ap, subst, ◌∙◌, ℤ, pos, negsuc, neg_ℤ, ◌*ℤ◌, Bool, true, false, if◌then◌else◌, List, [], ◌∷◌, map, length, get_or, slice_index}
+use Rattle.std.proofs.Common.{◌≡◌, ◌≢◌, ℕ, zero, suc, ◌+◌, ◌<◌, ◌==◌, arith, refl, sym, ap, subst, ◌∙◌, pos, negsuc, neg_ℤ, ◌*ℤ◌, Bool, true, false, if◌then◌else◌, List, [], ◌∷◌, length, get_or, slice_index}
 use Rattle.std.proofs.lemmas.Bool.Decides.{nat_tests}
-use Rattle.std.proofs.lemmas.Int.{ints}
 use Rattle.std.proofs.lemmas.List.{get_or-map, length-map}
 use Rattle.zr_base.specs.Terms.{coef_at}
 use Rattle.zr_lin.specs.DenseRows.{DenseRow}
-use Rattle.zr_lin.specs.Ineqs.{IneqOf, dense, row_at}
+use Rattle.zr_lin.specs.Ineqs.{dense, row_at}
 use Rattle.zr_game.specs.Players.{GameOf}
 use Rattle.zr_game.specs.declared.choice.Choice.{Choice}
 use Rattle.zr_system.specs.declared.line.Line.{Line}
 use Rattle.zr_system.specs.declared.line.Line.TheVariants as ALine
 use Rattle.zr_system.specs.declared.unknown.Unknown.{Unknown}
-use Rattle.zr_system.specs.declared.unknown.Unknown.TheVariants.{One, Worth, Share, Weight, Dual}
+use Rattle.zr_system.specs.declared.unknown.Unknown.TheVariants.{One}
 use Rattle.zr_system.specs.Asked.{no_line}
 use Rattle.zr_system.specs.Forms.{FormRow, at_most_0, is_same, minus, number_at, of, only}
 use Rattle.zr_system.specs.Lines.{all_lines, base_lines, row_of_line}
@@ -22,11 +21,11 @@ use Rattle.zr_system.proofs.ColumnForms.{coef_listed}
 use Rattle.zr_system.proofs.Expansion.{same_is, same_self}
 use Rattle.zr_choices.specs.Drawn.{keeps_up}
 use Rattle.zr_choices.specs.Parted.{place}
-use Rattle.zr_choices.specs.Programs.{free_in, is_free, may_be_negative}
+use Rattle.zr_choices.specs.Programs.{is_free, may_be_negative}
 use Rattle.zr_choices.specs.Signs.{is_sign, is_up, numbers_of, sign_rows, spread}
 use Rattle.zr_choices.proofs.AskedRows.{none}
 use Rattle.zr_choices.proofs.Numbering.{count_same, number_at as item_at, numbers_rise, passing, rank, rank_at, rank_of, rank_rises}
-use Rattle.zr_choices.proofs.SignLines.{all_kept, kept, same_signs, sign_unknown, ups}
+use Rattle.zr_choices.proofs.SignLines.{all_kept, same_signs, sign_unknown, ups}
 use Rattle.zr_choices.proofs.Spreading.{spread_at, spread_small}
 use Rattle.zr_choices.proofs.Unknowns.{columns_apart}
 
@@ -135,8 +134,7 @@ module _ (game : GameOf) (leaves : LeavesOf) (path : List Choice) where
       let here : row_of (place (is_free game leaves) j) ≡ i.0 = at_place j h f ∙ (let q = i.2 in omega (arith, q)) in
       let name : sign_unknown (get_or ls i.0 no_line) ≡ get_or us j One =
       ap sign_unknown (sym i.3) ∙ names m m_below ∙ k.3 ∙ ap (λ (x : ℕ). get_or us x One) own in
-      let below = i.1 in
-      (
+      let below = i.1 in (
         omega (arith, here, below),
         ap (λ (x : ℕ). is_sign (get_or ls x no_line)) here ∙ i.4,
         ap (λ (x : ℕ). sign_unknown (get_or ls x no_line)) here ∙ name,

@@ -1,5 +1,5 @@
 -- Why a question stops.
-use Rattle.std.proofs.Common.{◌≡◌, sym, subst, List, slice_index}
+use Rattle.std.proofs.Common.{sym, subst, List, slice_index}
 use Rattle.zr_io.specs.declared.purse.Purse.{Purse}
 use Rattle.zr_lin.specs.declared.stuck.Stuck.{Stuck}
 use Rattle.zr_game.specs.Players.{GameOf}

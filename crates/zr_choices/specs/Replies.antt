@@ -1,5 +1,5 @@
 -- What the question of a path of choices is answered.
-use Rattle.std.specs.Prelude.{◌≡◌, List, length}
+use Rattle.std.specs.Prelude.{◌≡◌, List}
 use Rattle.zr_base.specs.Points.{PointOf, num_of}
 use Rattle.zr_base.specs.Terms.{Terms}
 use Rattle.zr_lin.specs.Ineqs.{Solves}

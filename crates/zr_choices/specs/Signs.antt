@@ -1,5 +1,5 @@
 -- The rows that say of an unknown that it is at least 0, by row number and by column.
-use Rattle.std.specs.Prelude.{ℕ, zero, suc, ◌+◌, Bool, true, false, if◌then◌else◌, List, [], ◌∷◌, drop, slice_index_or}
+use Rattle.std.specs.Prelude.{ℕ, suc, Bool, true, false, if◌then◌else◌, List, [], ◌∷◌, drop, slice_index_or}
 use Rattle.zr_system.specs.declared.line.Line.{Line}
 use Rattle.zr_system.specs.declared.line.Line.TheVariants as ALine
 use Rattle.zr_system.specs.declared.unknown.Unknown.{Unknown}

@@ -104,7 +104,10 @@ fn reply_of(alloc: Global, q: &Question, answer: LpAnswer) -> Result<Reply, Allo
 {
     match answer {
         LpAnswer::Best {
-            point, mult, extra, ..
+            point,
+            mult,
+            extra,
+            ..
         } => {
             if point.num(q.lp.columns as usize - 1) > 0 {
                 let point = point_by(alloc, &q.order, &point)?;

@@ -8,10 +8,9 @@ mod program;
 mod reply;
 mod row;
 mod sign;
-mod value;
-
 #[cfg(test)]
 mod tests;
+mod value;
 
 pub use asking::ask;
 pub use reply::{ChoiceStop, Reply};

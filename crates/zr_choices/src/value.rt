@@ -47,11 +47,7 @@ fn values_by(alloc: Global, order: &[Unknown], point: &Point) -> Result<Vec<i128
 }
 
 /// The point that the columns give, over the same denominator.
-pub(crate) fn point_by(
-    alloc: Global,
-    order: &[Unknown],
-    point: &Point,
-) -> Result<Point, AllocError>
+pub(crate) fn point_by(alloc: Global, order: &[Unknown], point: &Point) -> Result<Point, AllocError>
     requires few { length order.now < 16777217 }
     requires columns { place (free_in order.now) (length order.now) ≤ length point.now.num }
     requires up { (k : ℕ) → k < length point.now.num → pos 0 ≤ℤ num_of point.now k }

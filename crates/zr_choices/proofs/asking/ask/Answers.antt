@@ -1,4 +1,4 @@
-use Rattle.std.proofs.Common.{◌≡◌, sym, subst, slice_index}
+use Rattle.std.proofs.Common.{subst, slice_index}
 use Rattle.zr_game.specs.Games.{game_of}
 use Rattle.zr_basis.specs.Programs.{Program}
 use Rattle.zr_basis.specs.Runs.{IsFromSlacks, end_of}

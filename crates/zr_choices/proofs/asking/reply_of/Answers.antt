@@ -1,7 +1,6 @@
-use Rattle.std.proofs.Common.{rules, ◌≡◌, ◌<◌, ℕ, arith, sym, ap, ◌∙◌, pos, ◌<ℤ◌, ◌≤ℤ◌, int_lt, true, false, length, FitsSigned}
+use Rattle.std.proofs.Common.{rules, ◌≡◌, arith, pos, int_lt, true, false, length, FitsSigned}
 use Rattle.std.specs.Int.{w128}
 use Rattle.std.proofs.lemmas.Int.{ints, to_z-of_z}
-use Rattle.zr_base.specs.Points.{num_of}
 use Rattle.zr_choices.proofs.AskedRows.{never_unbounded}
 use Rattle.zr_choices.proofs.Replying.{best_columns, best_reply, empty_columns, empty_reply, extra_listed, mult_listed, point_reply, signs_are, signs_few}
 use Rattle.zr_choices.specs.Programs.{is_free}

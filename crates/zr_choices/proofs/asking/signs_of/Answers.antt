@@ -1,4 +1,4 @@
-use Rattle.std.proofs.Common.{◌≡◌, ◌∙◌, sym, ap, length, List, [], ℕ}
+use Rattle.std.proofs.Common.{◌∙◌, sym, ap, length, List, [], ℕ}
 use Rattle.zr_game.specs.Games.{game_of}
 use Rattle.zr_system.specs.declared.unknown.Unknown.{Unknown}
 use Rattle.zr_system.specs.Regions.{leaves_of}

@@ -1,4 +1,4 @@
-use Rattle.std.proofs.Common.{◌≡◌, ℕ, ◌+◌, sym, ap, ap₂, ◌∙◌, List, [], ◌∷◌, ◌++◌, drop, length, Vec, Global, true, false}
+use Rattle.std.proofs.Common.{ℕ, ◌+◌, sym, ap, ap₂, ◌∙◌, List, [], ◌∷◌, ◌++◌, drop, length, Vec, Global}
 use Rattle.zr_choices.specs.Signs.{is_up, numbers_of, spread}
 use Rattle.zr_choices.proofs.Spreading.{count_free, count_up, spread_free, spread_up}
 use Rattle.zr_choices.proofs.sign.spread_rows.Goals as goal
