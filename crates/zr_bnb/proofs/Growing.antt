@@ -40,6 +40,7 @@ use Rattle.zr_bnb.proofs.Visiting.{at_most_not_below}
 
 -- branches alone were spent
 pub record SpendsBranches (old new : Purse) : Type 0 where
+  pub pivots : old.pivots ≤ new.pivots
   pub limit : new.limit ≡ old.limit
   pub cuts : new.cuts ≡ old.cuts
   pub branches : old.branches ≤ new.branches
@@ -562,6 +563,7 @@ module _ (player : PlayerOf) (aim : List ℤ) where
       let w = work_of best plans paths spent g in
       let u = w.1 in
       record {
+        pivots = s.pivots;
         limit = s.limit;
         cuts = s.cuts;
         branches = s.branches;

@@ -167,6 +167,7 @@ at_answer player aim old new spent best plans tree g e made = (
 pub spends_on : (player : PlayerOf) (a b c : Purse) → SpendsWork player a b → CountsPivotsAlone b c
     → SpendsWork player a c
 spends_on player a b c p q = record {
+  pivots = (let x = p.pivots in let y = q.pivots in omega (arith, x, y));
   limit = q.limit ∙ p.limit;
   cuts = q.cuts ∙ p.cuts;
   branches = (let x = p.branches in let y = q.branches in omega (arith, x, y));

@@ -8,3 +8,4 @@ pub mod Stacks
 pub mod Growing
 pub mod Proving
 pub mod Leasts
+pub mod Sizes

@@ -1,5 +1,5 @@
 -- The answers of the search for a least value.
-use Rattle.std.specs.Prelude.{◌≡◌, ◌+◌, ◌⊎◌, ℤ, pos, ◌<ℤ◌, List}
+use Rattle.std.specs.Prelude.{◌≡◌, ◌+◌, ◌-◌, ◌*◌, ◌≤◌, ◌⊎◌, ℤ, pos, ◌<ℤ◌, List, length}
 use Rattle.zr_base.specs.Fractions.{Fraction}
 use Rattle.zr_io.specs.declared.purse.Purse.{Purse}
 use Rattle.zr_game.specs.Players.{PlayerOf}
@@ -45,3 +45,11 @@ IsLeastAnswer player aim old new (Below base dir) =
     IsRay player base dir.items × (aim_value player aim (change_of dir.items) <ℤ (pos 0))
     × IsDrawnPoint player (MayAsk player aim) base
     × IsDrawnRay player (MayAsk player aim) dir.items
+
+-- the answer's tree has at most one node more than twice the branches that were spent
+abbrev pub HasFewNodes : Purse → Purse → LeastAnswer → Type 0
+HasFewNodes old new (At point value tree) =
+    length tree.nodes.items ≤ 1 + 2 * (new.branches - old.branches)
+HasFewNodes old new (Empty tree) =
+    length tree.nodes.items ≤ 1 + 2 * (new.branches - old.branches)
+HasFewNodes old new (Below base dir) = Unit {0}

@@ -62,8 +62,9 @@ IsBnbCause i player aim old new (AStop.Endless var dir) =
     ChangesWhole player dir.items var × IsLeastOpen player aim
 IsBnbCause i player aim old new AStop.NoMemory = Unit {0}
 
--- no more branches were spent than an open tree has units, and no cuts
+-- no more branches were spent than an open tree has units, and no cuts; pivots were counted
 pub record SpendsWork (player : PlayerOf) (old new : Purse) : Type 0 where
+  pub pivots : old.pivots ≤ new.pivots
   pub limit : new.limit ≡ old.limit
   pub cuts : new.cuts ≡ old.cuts
   pub branches : old.branches ≤ new.branches

@@ -6,7 +6,7 @@ ghost use Rattle.zr_game.specs.Players.{PlayerOf, player_of};
 ghost use Rattle.zr_game.specs.Games.{game_of};
 ghost use Rattle.zr_game.specs.Forms.{IsPlayer};
 ghost use Rattle.zr_branch.specs.Replies.{CountsPivotsAlone, IsSomePlayer};
-ghost use Rattle.zr_bnb.specs.Answers.{IsLeastAnswer};
+ghost use Rattle.zr_bnb.specs.Answers.{HasFewNodes, IsLeastAnswer};
 ghost use Rattle.zr_bnb.specs.Causes.{IsBnbCause, SpendsWork};
 ghost use Rattle.zr_bnb.specs.Found.{IsGrown};
 ghost use Rattle.zr_bnb.specs.Halts.{IsWideProduct};
@@ -52,7 +52,8 @@ fn times(alloc: Global, aim: &[i128], by: i128) -> Result<Vec<i128>, Halt>
 ///
 /// By branch and bound (A. H. Land and A. G. Doig, 1960), depth first. The purse pays each split,
 /// and its limit is at most 1,000,000,000. `aim` has a number for each variable of the player, none
-/// of them `i128::MIN`, and `i` is below the number of players.
+/// of them `i128::MIN`, and `i` is below the number of players. A tree has at most one node more
+/// than twice the branches that were spent.
 ///
 /// # Errors
 ///
@@ -75,6 +76,7 @@ pub fn least(
     requires limit { purse.old.limit ≤ 1000000000 }
     ensures answer { (player : PlayerOf) → IsPlayer (game_of game.now) i player
         → IfOk result (IsLeastAnswer player aim.now purse.old purse.new) }
+    ensures few { IfOk result (HasFewNodes purse.old purse.new) }
     ensures cause { (player : PlayerOf) → IsPlayer (game_of game.now) i player
         → IfErr result (IsBnbCause i player aim.now purse.old purse.new) }
     ensures spends { (player : PlayerOf) → IsPlayer (game_of game.now) i player

@@ -1,5 +1,5 @@
 -- What the question of a branch is asked with, and why it stops.
-use Rattle.std.proofs.Common.{◌≡◌, ℕ, sym, subst, refl, ℤ, pos, ◌≤ℤ◌, arith, Option, Some, None, List, slice_index}
+use Rattle.std.proofs.Common.{◌≡◌, ℕ, ◌+◌, ◌-◌, ◌^◌, ◌<◌, ◌≤◌, sym, subst, refl, ℤ, pos, ◌≤ℤ◌, arith, Option, Some, None, List, slice_index, ⊎_elim}
 use Rattle.std.proofs.lemmas.Int.{ints}
 use Rattle.zr_io.specs.declared.purse.Purse.{Purse}
 use Rattle.zr_lin.specs.declared.stuck.Stuck.{Stuck}
@@ -31,8 +31,12 @@ keeps_lows player path v low e up =
     let keeps = path_keeps player (root_leaf player) path (root_keeps player) in
     raised ((branch player path).low v) low up (keeps.lows v low e)
 
-pub pivots_alone : (p : Program) (old new : Purse) → CountsFew p old new → CountsPivotsAlone old new
-pivots_alone p old new few = record {
+pub pivots_alone : (p : Program) (old new : Purse) → old.pivots < 2 ^ 64 → CountsFew p old new
+    → CountsPivotsAlone old new
+pivots_alone p old new small few = record {
+  pivots = ⊎_elim (λ (e : new.pivots ≡ old.pivots + few.0). omega (arith, e))
+      (λ (e : (new.pivots ≡ 2 ^ 64 - 1) × (2 ^ 64 - 1 ≤ old.pivots + few.0)).
+      let f = e.0 in omega (arith, f, small)) few.2.count;
   limit = few.2.limit;
   branches = few.2.branches;
   cuts = few.2.cuts;

@@ -115,6 +115,7 @@ IsAskCause i player path aim AStop.NoMemory = Unit {0}
 
 -- pivots were counted, and nothing else
 pub record CountsPivotsAlone (old new : Purse) : Type 0 where
+  pub pivots : old.pivots ≤ new.pivots
   pub limit : new.limit ≡ old.limit
   pub branches : new.branches ≡ old.branches
   pub cuts : new.cuts ≡ old.cuts

@@ -155,6 +155,8 @@ pub fn ask(
     ensures cause { IfErr result (IsAskCause i (player_of player.now) path.now aim.now) }
     ensures purse { CountsPivotsAlone purse.old purse.new }
 {
+    // What is read fits its type: the count so far is a `u64`.
+    let _pivots = purse.pivots;
     let Ok(asked) = question_of(alloc, player, leaf, aim) else {
         return Err(AskStop::NoMemory);
     };

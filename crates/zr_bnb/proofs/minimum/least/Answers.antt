@@ -6,6 +6,7 @@ use Rattle.zr_game.specs.Games.{game_of}
 use Rattle.zr_game.proofs.Items.{found, one, read_below}
 use Rattle.zr_bnb.specs.Answers.{IsLeastAnswer}
 use Rattle.zr_bnb.specs.Causes.{IsBnbCause, SpendsWork}
+use Rattle.zr_bnb.proofs.Sizes.{if_few}
 use Rattle.zr_bnb.proofs.minimum.least.Goals as goal
 use Rattle.zr_bnb.proofs.minimum.least.Goals.{After-index-player}
 
@@ -51,3 +52,8 @@ returns-clause-spends c player is =
     let at = (goal.at.returns-clause-spends c).After-index-player in
     subst (λ (p : PlayerOf). SpendsWork p c.args.purse.now c.least_of.new.purse) (same at player is)
     c.least_of.ensures.spends
+
+pub returns-clause-few : goal.returns-clause-few
+returns-clause-few c =
+    if_few (player_of c.index-player.result.now) c.args.aim.now c.args.purse.now
+    c.least_of.new.purse c.least_of.result c.least_of.ensures.answer

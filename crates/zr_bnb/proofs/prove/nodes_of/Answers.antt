@@ -1,4 +1,4 @@
-use Rattle.std.proofs.Common.{◌≡◌, ◌+◌, ◌∙◌, sym, ap, subst, add-one, [], ◌∷◌, ◌++◌, map, option_map, take}
+use Rattle.std.proofs.Common.{◌≡◌, ◌+◌, ◌≤◌, arith, ◌∙◌, sym, ap, subst, add-one, [], ◌∷◌, ◌++◌, map, option_map, take}
 use Rattle.std.proofs.Math.Seq.{take-suc}
 use Rattle.std.proofs.lemmas.List.{map-append}
 use Rattle.std.proofs.lemmas.List.Elements.{All-push}
@@ -15,6 +15,7 @@ use Rattle.zr_bnb.proofs.prove.nodes_of.Goals as goal
 
 counts_on : (a b c : Purse) → CountsPivotsAlone a b → CountsPivotsAlone b c → CountsPivotsAlone a c
 counts_on a b c p q = record {
+  pivots = (let x = p.pivots in let y = q.pivots in omega (arith, x, y));
   limit = q.limit ∙ p.limit;
   branches = q.branches ∙ p.branches;
   cuts = q.cuts ∙ p.cuts;

@@ -16,6 +16,7 @@ use Rattle.zr_bnb.proofs.search.search.Goals.{After-visit, In-Some}
 
 search_on : (a b c : Purse) → SpendsBranches a b → CountsPivotsAlone b c → SpendsBranches a c
 search_on a b c p q = record {
+  pivots = (let x = p.pivots in let y = q.pivots in omega (arith, x, y));
   limit = q.limit ∙ p.limit;
   cuts = q.cuts ∙ p.cuts;
   branches = (let x = p.branches in let y = q.branches in omega (arith, x, y));
@@ -23,6 +24,7 @@ search_on a b c p q = record {
 
 branch_on : (a b c : Purse) → SpendsBranches a b → Spends b c AUnit.Branch → SpendsBranches a c
 branch_on a b c p q = record {
+  pivots = (let x = p.pivots in let y = q.0 in omega (arith, x, y));
   limit = q.3 ∙ p.limit;
   cuts = q.2 ∙ p.cuts;
   branches = (let x = p.branches in let y = q.1 in omega (arith, x, y));
@@ -41,7 +43,7 @@ branches-init c =
     record {
       growing = rw (z, c.new-plans.ensures.items, c.in-Ok.ensures, c.new.ensures.items, c.new-due.ensures.items)
           (growing_at_start player c.args.aim.now (c.args.i, c.requires.some));
-      spends = record { limit = refl; cuts = refl; branches = omega arith };
+      spends = record { pivots = omega arith; limit = refl; cuts = refl; branches = omega arith };
       ends = λ e. absurd cc;
     }
 
@@ -95,6 +97,7 @@ returns-in-Err-clause-cause c = c.in-Err.ensures.cause c.args.purse.now c.visit.
 -- counts of two steps
 counts_on : (a b c : Purse) → CountsPivotsAlone a b → CountsPivotsAlone b c → CountsPivotsAlone a c
 counts_on a b c p q = record {
+  pivots = (let x = p.pivots in let y = q.pivots in omega (arith, x, y));
   limit = q.limit ∙ p.limit;
   branches = q.branches ∙ p.branches;
   cuts = q.cuts ∙ p.cuts;
