@@ -1,0 +1,3 @@
+pub mod Products
+pub mod Parting
+pub mod FewUnits
