@@ -16,7 +16,7 @@ use zr_game::Named;
 use zr_tree::Node;
 
 /// Writes the lines of a tree's nodes.
-pub(crate) fn put_tree(alloc: Global, out: &mut Vec<u8>, nodes: &[Node]) -> Result<(), AllocError>
+pub fn put_tree(alloc: Global, out: &mut Vec<u8>, nodes: &[Node]) -> Result<(), AllocError>
     ensures { OnOk result (out.new.items ≡ out.old.items ++ concat (map node_line (map node_of nodes.now))) }
 {
     for node in nodes {
@@ -81,7 +81,7 @@ fn put_known(alloc: Global, out: &mut Vec<u8>, point: &Point) -> Result<(), Allo
 }
 
 /// Writes the line of a count and the lines of named points and rays.
-pub(crate) fn put_named(alloc: Global, out: &mut Vec<u8>, items: &[Named]) -> Result<(), AllocError>
+pub fn put_named(alloc: Global, out: &mut Vec<u8>, items: &[Named]) -> Result<(), AllocError>
     ensures { OnOk result (out.new.items ≡ out.old.items ++ concat (named_lines (map named_of items.now))) }
 {
     put_named_count(alloc, out, items.len())?;
@@ -135,7 +135,7 @@ fn put_ray(alloc: Global, out: &mut Vec<u8>, base: &Point, dir: &[i128]) -> Resu
 }
 
 /// Writes a direction's numbers.
-fn put_direction(alloc: Global, out: &mut Vec<u8>, dir: &[i128]) -> Result<(), AllocError>
+pub fn put_direction(alloc: Global, out: &mut Vec<u8>, dir: &[i128]) -> Result<(), AllocError>
     ensures { OnOk result (out.new.items ≡ out.old.items ++ spaced (map signed dir.now)) }
 {
     for n in dir {
@@ -297,7 +297,7 @@ fn put_multipliers(alloc: Global, out: &mut Vec<u8>, mult: &[(u32, i128)]) -> Re
 }
 
 /// Writes a point's denominator, and then its numbers.
-pub(crate) fn put_point(alloc: Global, out: &mut Vec<u8>, point: &Point) -> Result<(), AllocError>
+pub fn put_point(alloc: Global, out: &mut Vec<u8>, point: &Point) -> Result<(), AllocError>
     ensures { OnOk result (out.new.items ≡ out.old.items ++ spaced (point_fields point.now)) }
 {
     put_integer_field(alloc, out, point.den())?;
@@ -315,7 +315,7 @@ fn put_numbers(alloc: Global, out: &mut Vec<u8>, point: &Point) -> Result<(), Al
 }
 
 /// Writes a space, and a number from 0 on.
-pub(crate) fn put_natural_field(alloc: Global, out: &mut Vec<u8>, n: u128) -> Result<(), AllocError>
+pub fn put_natural_field(alloc: Global, out: &mut Vec<u8>, n: u128) -> Result<(), AllocError>
     ensures { OnOk result (out.new.items ≡ out.old.items ++ 32 ∷ decimal n) }
 {
     out.push(b' ')?;
@@ -323,7 +323,7 @@ pub(crate) fn put_natural_field(alloc: Global, out: &mut Vec<u8>, n: u128) -> Re
 }
 
 /// Writes a space and a number.
-pub(crate) fn put_integer_field(alloc: Global, out: &mut Vec<u8>, n: i128) -> Result<(), AllocError>
+pub fn put_integer_field(alloc: Global, out: &mut Vec<u8>, n: i128) -> Result<(), AllocError>
     ensures { OnOk result (out.new.items ≡ out.old.items ++ 32 ∷ signed n) }
 {
     out.push(b' ')?;
