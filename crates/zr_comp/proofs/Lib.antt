@@ -1,0 +1,9 @@
+pub mod Suiting
+pub mod Stacks
+pub mod Stuck
+pub mod Costs
+pub mod Few
+pub mod Growing
+pub mod Paths
+pub mod Solving
+pub mod Units

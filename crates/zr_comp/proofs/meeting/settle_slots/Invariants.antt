@@ -1,0 +1,7 @@
+use Rattle.zr_game.specs.Games.{game_of}
+use Rattle.zr_system.specs.Regions.{leaves_of}
+use Rattle.zr_comp.specs.Cases.{IsChoiceList}
+use Rattle.zr_comp.proofs.meeting.settle_slots.Given as goal
+
+abbrev pub invariant-loop-j : goal.invariant-loop-j
+invariant-loop-j l = IsChoiceList (game_of l.game) (leaves_of l.leaves) l.kind l.list.items

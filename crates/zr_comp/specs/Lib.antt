@@ -1,0 +1,9 @@
+pub mod OpenCases
+pub mod OpenPaths
+pub mod Answers
+pub mod Causes
+pub mod Cases
+pub mod Ends
+pub mod Fates
+pub mod Spending
+pub mod Sizes
