@@ -165,6 +165,8 @@ pub fn ask(
         path.now) }
     ensures purse { CountsPivotsAlone purse.old purse.new }
 {
+    // The count's range is known from here on.
+    let _pivots = purse.pivots;
     let question = match question_of(alloc, game, leaves, path) {
         Ok(question) => question,
         Err(stop) => return Err(stop),
