@@ -1,0 +1,7 @@
+mod Near
+mod Splitting
+mod ExactEnds
+mod Coverings
+mod Stacks
+mod Growing
+mod Rays

@@ -1,0 +1,4 @@
+pub mod Covers
+pub mod Causes
+pub mod Splits
+pub mod Fates
