@@ -27,7 +27,8 @@ enough (suc k) f g some =
 pub few_columns : (game : GameOf) (leaves : LeavesOf) (most : ℕ) → cell_count game leaves ≤ most
     → length (columns game leaves) ≤ most
 few_columns game leaves most h =
-    let e = enough (length game) (λ i. player_lines game leaves i) (λ i. player_unknowns game leaves i)
+    let e = enough (length game) (λ i. player_lines game leaves i)
+    (λ i. player_unknowns game leaves i)
     (λ i. omega arith) in
     omega (arith, e, h)
 

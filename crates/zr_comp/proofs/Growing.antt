@@ -43,7 +43,8 @@ module _ (game : GameOf) (leaves : LeavesOf) (kind : Kind) where
   -- ---- paths
 
   choices_more : (start path : List Choice) (c : Choice)
-      → AreOpenChoices game leaves kind start path → HasSolution (system_rows game leaves (start ++ path))
+      → AreOpenChoices game leaves kind start path
+      → HasSolution (system_rows game leaves (start ++ path))
       → MayChoose game leaves kind (start ++ path) c
       → AreOpenChoices game leaves kind start (path ++ c ∷ [])
   choices_more start [] c all has may = (
@@ -52,15 +53,18 @@ module _ (game : GameOf) (leaves : LeavesOf) (kind : Kind) where
     tt,
   )
   choices_more start (x ∷ xs) c all has may =
-      let e : start ++ (x ∷ xs) ≡ then_choice start x ++ xs = sym (append_assoc start (x ∷ []) xs) in (
+      let e : start ++ (x ∷ xs) ≡ then_choice start x ++ xs = sym
+      (append_assoc start (x ∷ []) xs) in (
         all.0,
         all.1,
-        choices_more (then_choice start x) xs c all.2 (subst (λ (p : List Choice). HasSolution (system_rows game leaves p)) e has)
+        choices_more (then_choice start x) xs c all.2
+            (subst (λ (p : List Choice). HasSolution (system_rows game leaves p)) e has)
             (subst (λ (p : List Choice). MayChoose game leaves kind p c) e may),
       )
 
   pub due_more : (path : List Choice) (c : Choice) → IsDue game leaves kind path
-      → HasSolution (system_rows game leaves path) → MayChoose game leaves kind path c → SuitsOne kind c
+      → HasSolution (system_rows game leaves path) → MayChoose game leaves kind path c
+      → SuitsOne kind c
       → IsDue game leaves kind (then_choice path c)
   due_more path c due has may suits = record {
     open_is = choices_more [] path c due.open_is has may;
@@ -140,8 +144,13 @@ module _ (game : GameOf) (leaves : LeavesOf) (kind : Kind) where
       due = g.due.1;
       planned = λ wanted ts all. (
           let t = g.planned wanted (Close mult ∷ ts) (keeps wanted, all) in
-          let u = t.3 in
-          (t.0, t.1, t.2 ∙ sym (append_assoc nodes (CloseNode mult ∷ []) (forest ts)), omega (arith, u)));
+          let u = t.3 in (
+            t.0,
+            t.1,
+            t.2 ∙ sym (append_assoc nodes (CloseNode mult ∷ []) (forest ts)),
+            omega
+                (arith, u),
+          ));
       forms = All-push IsCaseForm nodes (CloseNode mult) g.forms shown.counted;
       count = (let c = g.count in let l = length-append nodes (CloseNode mult ∷ []) in
           omega (arith, c, l));
@@ -157,10 +166,12 @@ module _ (game : GameOf) (leaves : LeavesOf) (kind : Kind) where
     pub record ArePicked (wanted : Bool) (i j n : ℕ) (ts : List CasesOf) : Type 0 where
       pub trees : ℕ → CasesOf
       pub rest : List CasesOf
-      pub each : (k : ℕ) → k < n → IsOpen wanted (then_choice path (AChoice.Which i (j + k))) (trees k)
+      pub each : (k : ℕ) → k < n → IsOpen wanted (then_choice path (AChoice.Which i (j + k)))
+          (trees k)
       pub others : AllOpen wanted paths rest
       pub nodes_are : lists_below n (λ k. nodes_of (trees k)) ++ forest rest ≡ forest ts
-      pub units_are : total_below n (λ k. case_units leaves (trees k)) + units_all rest ≡ units_all ts
+      pub units_are : total_below n (λ k. case_units leaves (trees k)) + units_all rest
+          ≡ units_all ts
 
     picked : (wanted : Bool) (i n j : ℕ) (ts : List CasesOf)
         → AllOpen wanted (whiches path i j n ++ paths) ts → ArePicked wanted i j n ts
@@ -179,7 +190,8 @@ module _ (game : GameOf) (leaves : LeavesOf) (kind : Kind) where
           rest = r.rest;
           each = λ k h. one r k h;
           others = r.others;
-          nodes_are = append_assoc (nodes_of t) (lists_below n (λ k. nodes_of (r.trees k))) (forest r.rest)
+          nodes_are = append_assoc (nodes_of t) (lists_below n (λ k. nodes_of (r.trees k)))
+              (forest r.rest)
               ∙ ap (λ (ns : List RNodeOf). nodes_of t ++ ns) r.nodes_are;
           units_are = (let u = r.units_are in omega (arith, u));
         }
@@ -201,11 +213,14 @@ module _ (game : GameOf) (leaves : LeavesOf) (kind : Kind) where
       pub is_open : IsOpen wanted path tree
       pub others : AllOpen wanted paths rest
       pub nodes_are : nodes_of tree ++ forest rest ≡ case_node case ∷ forest ts
-      pub units_are : case_units leaves tree + units_all rest ≡ case_price leaves case + units_all ts
+      pub units_are : case_units leaves tree + units_all rest ≡ case_price leaves case +
+          units_all ts
 
-    made : (case : Case) → HasSolution (system_rows game leaves path) → IsCase game leaves kind path case
+    made : (case : Case) → HasSolution (system_rows game leaves path)
+        → IsCase game leaves kind path case
         → (wanted : Bool) (ts : List CasesOf)
-        → AllOpen wanted (children leaves path (case_node case) ++ paths) ts → IsMade wanted case ts
+        → AllOpen wanted (children leaves path (case_node case) ++ paths) ts
+        → IsMade wanted case ts
     made (ACase.Leaf i k) has is wanted [] all = absurd all
     made (ACase.Leaf i k) has is wanted (s ∷ []) all = absurd all.1
     made (ACase.Leaf i k) has is wanted (s ∷ t ∷ ts) all = record {
@@ -236,12 +251,15 @@ module _ (game : GameOf) (leaves : LeavesOf) (kind : Kind) where
             has,
             is,
             λ k h. (let e : 0 + k ≡ k = omega arith in
-                subst (λ (l : ℕ). IsOpen wanted (then_choice path (AChoice.Which i l)) (r.trees k)) e
+                subst (λ (l : ℕ). IsOpen wanted (then_choice path (AChoice.Which i l))
+                (r.trees k)) e
                 (r.each k h)),
           );
           others = r.others;
-          nodes_are = ap (λ (n : ℕ). (WhichNode i ∷ lists_below n (λ k. nodes_of (r.trees k))) ++ forest r.rest)
-              (count_is leaves.regions i) ∙ ap (λ (ns : List RNodeOf). WhichNode i ∷ ns) r.nodes_are;
+          nodes_are = ap (λ (n : ℕ). (WhichNode i ∷ lists_below n (λ k. nodes_of (r.trees k)))
+              ++ forest r.rest)
+              (count_is leaves.regions i) ∙ ap (λ (ns : List RNodeOf). WhichNode i ∷ ns)
+              r.nodes_are;
           units_are = (let u = r.units_are in omega (arith, u));
         }
 
@@ -252,7 +270,8 @@ module _ (game : GameOf) (leaves : LeavesOf) (kind : Kind) where
     whiches_due i (suc n) j has may pure = (
       due_more path (AChoice.Which i j) g.due.0 has
           (let e : j + 0 ≡ j = omega arith in
-          subst (λ (l : ℕ). MayChoose game leaves kind path (AChoice.Which i l)) e (may 0 (omega arith)))
+          subst (λ (l : ℕ). MayChoose game leaves kind path (AChoice.Which i l)) e
+          (may 0 (omega arith)))
           (which_suits kind i j pure),
       whiches_due i n (suc j) has
           (λ k h. (let e : j + suc k ≡ suc j + k = omega arith in
@@ -260,7 +279,8 @@ module _ (game : GameOf) (leaves : LeavesOf) (kind : Kind) where
           (may (suc k) (omega (arith, h))))) pure,
     )
 
-    children_due : (case : Case) → HasSolution (system_rows game leaves path) → IsCase game leaves kind path case
+    children_due : (case : Case) → HasSolution (system_rows game leaves path)
+        → IsCase game leaves kind path case
         → AreDue (children leaves path (case_node case) ++ paths)
     children_due (ACase.Leaf i k) has is = (
       due_more path (AChoice.On i k) g.due.0 has is.1 (on_suits kind i k is.0),
@@ -272,7 +292,11 @@ module _ (game : GameOf) (leaves : LeavesOf) (kind : Kind) where
     )
     children_due (ACase.Player i) has is =
         whiches_due i (leaf_count leaves i) 0 has
-        (λ k h. (is, (let e : k ≡ 0 + k = omega arith in subst (λ (l : ℕ). l < leaf_count leaves i) e h)))
+        (λ k h. (
+          is,
+          (let e : k ≡ 0 + k = omega arith in subst
+              (λ (l : ℕ). l < leaf_count leaves i) e h),
+        ))
         is.0
 
     -- a case is made: its paths stand for the path
@@ -303,7 +327,8 @@ module _ (game : GameOf) (leaves : LeavesOf) (kind : Kind) where
 
   -- ---- the work that was done
 
-  weaker : (rule other : EndRule) → ((path : List Choice) (mult : Multipliers) → rule path mult → other path mult)
+  weaker : (rule other : EndRule) → ((path : List Choice) (mult : Multipliers) → rule path mult
+      → other path mult)
       → (path : List Choice) (t : CasesOf) → IsOpenBy rule game leaves kind path t
       → IsOpenBy other game leaves kind path t
   weaker rule other w path (OnOff i k s t) h = (
@@ -416,9 +441,11 @@ module _ (game : GameOf) (leaves : LeavesOf) (kind : Kind) where
       let l = length-map proof.nodes.items rnode_of in record {
         tree = t.0;
         nodes_are = t.2 ∙ append-nil (map rnode_of proof.nodes.items);
-        refutes = refutes (end_rule game leaves true) (Closes game leaves) (λ path mult h. h.closes) [] t.0 t.1;
+        refutes = refutes (end_rule game leaves true) (Closes game leaves)
+            (λ path mult h. h.closes) [] t.0 t.1;
         open_is = open_cases true [] t.0 t.1;
         spent = omega (arith, u, paid);
-        drawn = refutes (end_rule game leaves true) (AreDrawn game leaves) (λ path mult h. h.drawn) [] t.0 t.1;
+        drawn = refutes (end_rule game leaves true) (AreDrawn game leaves)
+            (λ path mult h. h.drawn) [] t.0 t.1;
         few = omega (arith, u, c, l);
       }

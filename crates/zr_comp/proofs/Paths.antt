@@ -46,7 +46,8 @@ module _ (game : GameOf) (leaves : LeavesOf) where
 
   pub due_exist : (kind : Kind) (path : List Choice) → IsDue game leaves kind path
       → All (ChoiceExists game leaves) path
-  due_exist kind path due = open_exist kind [] path (All-nil (ChoiceExists game leaves)) due.open_is
+  due_exist kind path due = open_exist kind [] path (All-nil (ChoiceExists game leaves))
+      due.open_is
 
   -- no leaf of the player is decided where none is chosen
   pub undecided : (path : List Choice) (i : ℕ) → All (ChoiceExists game leaves) path
@@ -60,11 +61,16 @@ module _ (game : GameOf) (leaves : LeavesOf) where
       (All-contains (ChoiceExists game leaves) path (AChoice.Which i w.0) exist w.1).1 w.1
 
   -- a leaf that is neither On nor Off
-  pub open_leaf : (path : List Choice) (i k : ℕ) → SuitsKind Mixed path → LeafExists game leaves i k
+  pub open_leaf : (path : List Choice) (i k : ℕ) → SuitsKind Mixed path
+      → LeafExists game leaves i k
       → (Contains path (AChoice.Off i k) → ⊥) → (Contains path (AChoice.On i k) → ⊥)
       → IsOpenLeaf game leaves path i k
-  open_leaf path i k suits there off on =
-      (there, λ d. ⊎_elim on (λ o. ⊎_elim off (λ (w : (l : ℕ) × Contains path (AChoice.Which i l)). suits i w.0 w.1) o) d)
+  open_leaf path i k suits there off on = (
+    there,
+    λ d. ⊎_elim on
+        (λ o. ⊎_elim off (λ (w : (l : ℕ) × Contains path (AChoice.Which i l)). suits i w.0 w.1)
+        o) d,
+  )
 
   module _ (path : List Choice)
       (used : (i k : ℕ) → i < length game → k < leaf_count leaves i → IsUsed path i k
@@ -133,7 +139,8 @@ module _ (game : GameOf) (leaves : LeavesOf) where
   }
 
   -- one choice more
-  pub list_more : (kind : Kind) (path : List Choice) (c : Choice) → IsChoiceList game leaves kind path
+  pub list_more : (kind : Kind) (path : List Choice) (c : Choice)
+      → IsChoiceList game leaves kind path
       → MayChoose game leaves kind path c → SuitsOne kind c
       → IsChoiceList game leaves kind (path ++ c ∷ [])
   list_more kind path c is may suits = record {

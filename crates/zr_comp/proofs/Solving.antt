@@ -26,7 +26,8 @@ all_left P (x ∷ xs) ys all =
 
 module _ (game : GameOf) (leaves : LeavesOf) where
   lines_join : (path more : List Choice)
-      → path_lines game leaves (path ++ more) ≡ path_lines game leaves path ++ path_lines game leaves more
+      → path_lines game leaves (path ++ more) ≡ path_lines game leaves path
+      ++ path_lines game leaves more
   lines_join [] more = refl
   lines_join (c ∷ cs) more =
       ap (λ (ls : List Line). choice_lines game leaves c ++ ls) (lines_join cs more)
@@ -46,7 +47,8 @@ module _ (game : GameOf) (leaves : LeavesOf) where
       ∙ map-append row (all_lines game leaves path) (path_lines game leaves more)
 
   solves_front : (path more : List Choice) (x : ℕ → ℤ) (d : ℤ)
-      → Solves (system_rows game leaves (path ++ more)) x d → Solves (system_rows game leaves path) x d
+      → Solves (system_rows game leaves (path ++ more)) x d
+      → Solves (system_rows game leaves path) x d
   solves_front path more x d h = (
     h.0,
     all_left (IneqHolds x d) (system_rows game leaves path) (map row (path_lines game leaves more))

@@ -16,12 +16,14 @@ suits_more Mixed path c all one = λ i k h.
     ⊎_elim (λ (p : Contains path (AChoice.Which i k)). all i k p)
     (λ (e : c ≡ AChoice.Which i k). one i k e)
     (Contains-push_cases path c (AChoice.Which i k) h)
-suits_more Pure path c all one = λ i k h. ⊎_elim (λ (a : Contains (then_choice path c) (AChoice.On i k)).
+suits_more Pure path c all one = λ i k h. ⊎_elim
+    (λ (a : Contains (then_choice path c) (AChoice.On i k)).
     ⊎_elim (λ (p : Contains path (AChoice.On i k)). all i k (inl p))
     (λ (e : c ≡ AChoice.On i k). one i k (inl e)) (Contains-push_cases path c (AChoice.On i k) a))
     (λ (a : Contains (then_choice path c) (AChoice.Off i k)).
     ⊎_elim (λ (p : Contains path (AChoice.Off i k)). all i k (inr p))
-    (λ (e : c ≡ AChoice.Off i k). one i k (inr e)) (Contains-push_cases path c (AChoice.Off i k) a)) h
+    (λ (e : c ≡ AChoice.Off i k). one i k (inr e))
+    (Contains-push_cases path c (AChoice.Off i k) a)) h
 
 zero_apart : (i k s j l : ℕ)
     → (AChoice.Zero i k s ≡ AChoice.On j l) ⊎ (AChoice.Zero i k s ≡ AChoice.Off j l) → ⊥

@@ -41,7 +41,8 @@ pub record IsWithout {A : Type 0} (xs : List A) (x : A) : Type 0 where
 
 without : {A : Type 0} (xs : List A) (x : A) → Contains xs x → IsWithout xs x
 without [] x h = absurd (let b = h.1 in omega (arith, b))
-without (y ∷ ys) x h = ⊎_elim (λ (e : y ≡ x). here e) (λ (l : Contains ys x). there (without ys x l)) (first_or_later y ys x h)
+without (y ∷ ys) x h = ⊎_elim (λ (e : y ≡ x). here e)
+    (λ (l : Contains ys x). there (without ys x l)) (first_or_later y ys x h)
   where
     here : y ≡ x → IsWithout (y ∷ ys) x
     here e = record {
@@ -56,7 +57,8 @@ without (y ∷ ys) x h = ⊎_elim (λ (e : y ≡ x). here e) (λ (l : Contains y
       rest = y ∷ w.rest;
       shorter = (let l = w.shorter in omega (arith, l));
       others = λ z has apart. ⊎_elim (λ (f : y ≡ z). (0, omega arith, f))
-          (λ (l : Contains ys z). later y w.rest z (w.others z l apart)) (first_or_later y ys z has);
+          (λ (l : Contains ys z). later y w.rest z (w.others z l apart))
+          (first_or_later y ys z has);
     }
 
 -- the list without n items, all different, that it contains
@@ -65,7 +67,8 @@ pub record IsWithoutAll {A : Type 0} (xs : List A) (n : ℕ) (f : ℕ → A) : T
   pub shorter : length xs ≡ n + length rest
   pub others : (z : A) → Contains xs z → ((k : ℕ) → k < n → z ≢ f k) → Contains rest z
 
-without_all : {A : Type 0} (n : ℕ) (xs : List A) (f : ℕ → A) → ((k : ℕ) → k < n → Contains xs (f k))
+without_all : {A : Type 0} (n : ℕ) (xs : List A) (f : ℕ → A)
+    → ((k : ℕ) → k < n → Contains xs (f k))
     → ((j k : ℕ) → j < k → f j ≢ f k) → IsWithoutAll xs n f
 without_all zero xs f has apart = record {
   rest = xs;
@@ -74,12 +77,14 @@ without_all zero xs f has apart = record {
 }
 without_all (suc n) xs f has apart =
     let w = without xs (f n) (has n (omega arith)) in
-    let r = without_all n w.rest f (λ k h. w.others (f k) (has k (omega (arith, h))) (apart k n h)) apart in
+    let r = without_all n w.rest f (λ k h. w.others (f k) (has k (omega (arith, h)))
+    (apart k n h)) apart in
     let l = w.shorter in
     let m = r.shorter in record {
       rest = r.rest;
       shorter = omega (arith, l, m);
-      others = λ z h none. r.others z (w.others z h (none n (omega arith))) (λ k b. none k (omega (arith, b)));
+      others = λ z h none. r.others z (w.others z h (none n (omega arith)))
+          (λ k b. none k (omega (arith, b)));
     }
 
 if_so : {A : Type 0} (b : Bool) (xs : List A) (x : A) → b ≡ true → Contains xs x
@@ -212,12 +217,14 @@ module _ (game : GameOf) (leaves : LeavesOf) (kind : Kind) where
   most path (OnOff i k on off) nodes hold opens =
       let w = without nodes (OnOffNode i k) (hold.leaf i k opens.1) in
       let a = most (then_choice path (AChoice.On i k)) on w.rest
-      (after_leaf path (AChoice.On i k) i k nodes hold (inl (Contains-push path (AChoice.On i k))) w)
+      (after_leaf path (AChoice.On i k) i k nodes hold
+      (inl (Contains-push path (AChoice.On i k))) w)
       opens.2 in
       let b = most (then_choice path (AChoice.Off i k)) off w.rest
       (after_leaf path (AChoice.Off i k) i k nodes hold
       (inr (inl (Contains-push path (AChoice.Off i k)))) w) opens.3 in
-      subst (λ (n : ℕ). 1 + case_units leaves on + case_units leaves off + 1 ≤ 2 ^ n) (sym w.shorter)
+      subst (λ (n : ℕ). 1 + case_units leaves on + case_units leaves off + 1 ≤ 2 ^ n)
+      (sym w.shorter)
       (one_more (length w.rest) (case_units leaves on) (case_units leaves off) a b)
   most path (RowSplit i k s on off) nodes hold opens =
       let w = without nodes (RowNode i k s) (hold.slot i k s opens.1.0 opens.1.2) in
@@ -227,7 +234,8 @@ module _ (game : GameOf) (leaves : LeavesOf) (kind : Kind) where
       let b = most (then_choice path (AChoice.Tight i k s)) off w.rest
       (after_slot path (AChoice.Tight i k s) i k s nodes hold
       (inr (Contains-push path (AChoice.Tight i k s))) w) opens.3 in
-      subst (λ (n : ℕ). 1 + case_units leaves on + case_units leaves off + 1 ≤ 2 ^ n) (sym w.shorter)
+      subst (λ (n : ℕ). 1 + case_units leaves on + case_units leaves off + 1 ≤ 2 ^ n)
+      (sym w.shorter)
       (one_more (length w.rest) (case_units leaves on) (case_units leaves off) a b)
   most path (Which i trees) nodes hold opens =
       let n = leaf_count leaves i in
@@ -238,7 +246,8 @@ module _ (game : GameOf) (leaves : LeavesOf) (kind : Kind) where
       λ k b. most (then_choice path (AChoice.Which i k)) (trees k) w.rest
       (after_which path i k nodes hold w) (opens.2 k b) in
       let t = total_most n (2 ^ length w.rest) (λ k. case_units leaves (trees k)) each in
-      subst (λ (m : ℕ). which_units n + total_below n (λ k. case_units leaves (trees k)) + 1 ≤ 2 ^ m)
+      subst (λ (m : ℕ). which_units n + total_below n (λ k. case_units leaves (trees k)) + 1 ≤ 2
+      ^ m)
       (sym w.shorter)
       (which_most n (length w.rest) (total_below n (λ k. case_units leaves (trees k))) t)
   most path (Close mult) nodes hold opens =
@@ -252,22 +261,26 @@ module _ (game : GameOf) (leaves : LeavesOf) (kind : Kind) where
   in_list (suc n) f k x b h =
       ⊎_elim (λ (e : k ≡ n). Contains-append_right (list_to n f) (f n) x
       (subst (λ (m : ℕ). Contains (f m) x) e h))
-      (λ (a : k ≢ n). Contains-append_left (list_to n f) (f n) x (in_list n f k x (omega (arith, b, a)) h))
+      (λ (a : k ≢ n). Contains-append_left (list_to n f) (f n) x
+      (in_list n f k x (omega (arith, b, a)) h))
       (cases_eq k n)
 
   in_nodes : (i k : ℕ) (x : RNodeOf) → LeafExists game leaves i k
       → Contains (leaf_nodes game leaves i k) x → Contains (all_nodes game leaves) x
   in_nodes i k x there h =
-      in_list (length game) (λ j. list_to (leaf_count leaves j) (λ l. leaf_nodes game leaves j l)) i x
+      in_list (length game) (λ j. list_to (leaf_count leaves j)
+      (λ l. leaf_nodes game leaves j l)) i x
       there.0
       (in_list (leaf_count leaves i) (λ l. leaf_nodes game leaves i l) k x there.1 h)
 
   slot_node : (i k s : ℕ) → SlotExists game leaves i k s
       → Contains (leaf_nodes game leaves i k) (RowNode i k s)
   slot_node i k s there =
-      later (OnOffNode i k) (if is_exact leaves i k then over_present game leaves i k (λ t. RowNode i k t) else [])
+      later (OnOffNode i k) (if is_exact leaves i k then over_present game leaves i k
+      (λ t. RowNode i k t) else [])
       (RowNode i k s)
-      (if_so (is_exact leaves i k) (over_present game leaves i k (λ t. RowNode i k t)) (RowNode i k s)
+      (if_so (is_exact leaves i k) (over_present game leaves i k (λ t. RowNode i k t))
+      (RowNode i k s)
       there.1
       (in_list (slot_count game leaves i k)
       (λ t. if is_present game leaves i k t then RowNode i k t ∷ [] else []) s (RowNode i k s)

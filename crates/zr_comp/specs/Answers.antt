@@ -20,8 +20,8 @@ use Rattle.zr_comp.specs.declared.answer.Found.TheVariants.{Solved, Refuted}
 use Rattle.zr_comp.specs.OpenCases.{IsOpenCases, case_units}
 use Rattle.zr_comp.specs.OpenPaths.{AreOnce, IsOpenChoicePath, SuitsKind}
 
--- the list of choices is one of the kind and complete, has each choice once, and leads to a node of
--- an open tree
+-- the list of choices is one of the kind and complete, has each choice once, and leads to a node
+-- of an open tree
 pub record IsCompleteList (game : GameOf) (leaves : LeavesOf) (kind : Kind)
     (path : List Choice) : Type 0 where
   pub exist : All (ChoiceExists game leaves) path
@@ -30,7 +30,8 @@ pub record IsCompleteList (game : GameOf) (leaves : LeavesOf) (kind : Kind)
   pub once : AreOnce path
   pub open_is : IsOpenChoicePath game leaves kind path
 
--- under some complete list of choices x solves the system, as a basic solution of the list's question
+-- under some complete list of choices x solves the system, as a basic solution of the list's
+-- question
 abbrev pub IsSolution : GameOf → LeavesOf → Kind → PointOf → Type 0
 IsSolution game leaves kind x =
     (path : List Choice) × IsCompleteList game leaves kind path × IsSolvedBy game leaves path x

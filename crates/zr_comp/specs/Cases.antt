@@ -41,7 +41,8 @@ pub record IsChoiceList (game : GameOf) (leaves : LeavesOf) (kind : Kind)
   pub made : AreMade game leaves kind [] path
 
 -- the path is one that a search of this kind goes on to
-pub record IsDue (game : GameOf) (leaves : LeavesOf) (kind : Kind) (path : List Choice) : Type 0 where
+pub record IsDue (game : GameOf) (leaves : LeavesOf) (kind : Kind)
+    (path : List Choice) : Type 0 where
   pub open_is : IsOpenChoicePath game leaves kind path
   pub suits : SuitsKind kind path
 

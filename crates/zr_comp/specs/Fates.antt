@@ -12,8 +12,8 @@ use Rattle.zr_comp.specs.Answers.{IsSolution}
 use Rattle.zr_comp.specs.Cases.{IsCase}
 use Rattle.zr_choices.specs.Replies.{IsRefutedBy}
 
--- it is closed by multipliers; or its rows have a solution, and a case of it is made; or there is a
--- solution under a complete list
+-- it is closed by multipliers; or its rows have a solution, and a case of it is made; or there is
+-- a solution under a complete list
 abbrev pub IsFate : GameOf → LeavesOf → Kind → List Choice → Fate → Type 0
 IsFate game leaves kind path (AFate.Closed mult) = IsRefutedBy game leaves path mult.items
 IsFate game leaves kind path (AFate.Divided case) =

@@ -10,8 +10,8 @@ use Rattle.zr_system.specs.Regions.{LeavesOf, leaf_count}
 use Rattle.zr_system.specs.System.{system_rows}
 use Rattle.zr_refute.specs.Refuting.{EndRule, IsOpenLeaf, IsOpenPlayer, IsOpenSlot, then_choice}
 
--- at each inner node the rows under the path have a solution, and the case is one that may be made:
--- it is of what isn't decided there; each end keeps the rule
+-- at each inner node the rows under the path have a solution, and the case is one that may be
+-- made: it is of what isn't decided there; each end keeps the rule
 abbrev pub IsOpenBy : EndRule → GameOf → LeavesOf → Kind → List Choice → CasesOf → Type 0
 IsOpenBy rule game leaves kind path (OnOff i k on off) =
     HasSolution (system_rows game leaves path) × IsOpenLeaf game leaves path i k

@@ -8,7 +8,8 @@ use Rattle.zr_system.specs.Unknowns.{list_to, over_present}
 -- a node for the leaf, and if it is exact one for each of its present slots
 abbrev pub leaf_nodes : GameOf → LeavesOf → ℕ → ℕ → List RNodeOf
 leaf_nodes game leaves i k =
-    OnOffNode i k ∷ (if is_exact leaves i k then over_present game leaves i k (λ s. RowNode i k s) else [])
+    OnOffNode i k
+    ∷ (if is_exact leaves i k then over_present game leaves i k (λ s. RowNode i k s) else [])
 
 -- those of all leaves
 abbrev pub all_nodes : GameOf → LeavesOf → List RNodeOf

@@ -5,7 +5,8 @@ use zr_cases::Refutation;
 /// What a search over choices finds.
 #[derive(Debug, Drop)]
 pub enum Found {
-    /// The numbers of the unknowns, in the order of their columns, under a complete list of choices.
+    /// The numbers of the unknowns, in the order of their columns, under a complete list of
+    /// choices.
     Solved(Point),
     /// No fractions solve the system under any complete list of choices.
     Refuted(Refutation),

@@ -258,8 +258,8 @@ fn all_slots_case(game: &Game, leaves: &Leaves, kind: Kind, path: &[Choice]) -> 
     None
 }
 
-/// The first case that isn't decided on the path, by numbers: leaves, or for the pure kind players,
-/// before slots. Where there is none, the path is complete.
+/// The first case that isn't decided on the path, by numbers: leaves, or for the pure kind
+/// players, before slots. Where there is none, the path is complete.
 pub(crate) fn first_case(game: &Game, leaves: &Leaves, kind: Kind, path: &[Choice]) -> Option<Case>
     requires leaves { AreLeaves (game_of game.now) leaves.now }
     requires few { AreFewSlots (game_of game.now) (leaves_of leaves.now) }

@@ -39,8 +39,8 @@ fn pay(purse: &mut Purse, branches: u32) -> Result<(), Spent>
     Ok(())
 }
 
-/// The units that a case costs: 1, or for a choice among the leaves of a player one less than their
-/// number, and 1 for one leaf.
+/// The units that a case costs: 1, or for a choice among the leaves of a player one less than
+/// their number, and 1 for one leaf.
 fn price(game: &Game, leaves: &Leaves, case: Case) -> u32
     requires leaves { AreLeaves (game_of game.now) leaves.now }
     requires case { PlayerExists (game_of game.now) case }
@@ -155,9 +155,9 @@ fn refutation_of(nodes: Vec<RNode>) -> Refutation
 ///
 /// # Errors
 ///
-/// `Spent` where a case is due and the purse is at its limit: an open tree then has more units than
-/// the purse had left. `Wide` where the question of a path is stuck. `WideRow` where a step of a
-/// coefficient of the system is too wide. `NoMemory` for want of memory.
+/// `Spent` where a case is due and the purse is at its limit: an open tree then has more units
+/// than the purse had left. `Wide` where the question of a path is stuck. `WideRow` where a step
+/// of a coefficient of the system is too wide. `NoMemory` for want of memory.
 pub fn search(
     alloc: Global,
     game: &Game,

@@ -42,8 +42,8 @@ fn row_step(
     }
 }
 
-/// What the left side of a row comes to at the point, over the point's denominator, or `None` where
-/// a step is too wide.
+/// What the left side of a row comes to at the point, over the point's denominator, or `None`
+/// where a step is too wide.
 fn row_amount(
     game: &Game,
     leaves: &Leaves,
@@ -156,7 +156,8 @@ pub(crate) fn gap_of(
     row_amount(game, leaves, order, point, line).unwrap_or(i128::MAX)
 }
 
-/// The case of a slot, whose multiplier isn't 0, if its leaf is On or chosen and its row not tight.
+/// The case of a slot, whose multiplier isn't 0, if its leaf is On or chosen and its row not
+/// tight.
 fn unmet_slot_of(
     game: &Game,
     leaves: &Leaves,

@@ -136,8 +136,8 @@ fn half_met_leaf(
     None
 }
 
-/// The first of these cases for the mixed kind: of a slot, of the widest leaf, of a leaf with such a
-/// slot.
+/// The first of these cases for the mixed kind: of a slot, of the widest leaf, of a leaf with
+/// such a slot.
 fn unmet_mixed(
     game: &Game,
     leaves: &Leaves,
@@ -186,8 +186,8 @@ fn unmet_pure(
     unmet_slot(game, leaves, Kind::Pure, order, point, path)
 }
 
-/// A case of which the point meets no choice, or that of the first player who has no chosen leaf for
-/// the pure kind. Which one decides how fast the search is, and nothing else.
+/// A case of which the point meets no choice, or that of the first player who has no chosen leaf
+/// for the pure kind.
 pub(crate) fn unmet_case(
     game: &Game,
     leaves: &Leaves,

@@ -8,8 +8,10 @@ pub loop-k-preserved : goal.loop-k-preserved
 loop-k-preserved c = λ m h.
     let none : c.leaf_case-case.result ≡ None = search rules in
     ⊎_elim (λ (e : m ≡ c.loop-k.k).
-    subst (λ (n : ℕ). HasSide c.args.path.now c.args.i n) (sym e) (c.leaf_case-case.ensures.none none))
-    (λ (n : m ≡ c.loop-k.k → ⊥). c.loop-k.invariant m (omega (arith, h, n))) (cases_eq m c.loop-k.k)
+    subst (λ (n : ℕ). HasSide c.args.path.now c.args.i n) (sym e)
+    (c.leaf_case-case.ensures.none none))
+    (λ (n : m ≡ c.loop-k.k → ⊥). c.loop-k.invariant m (omega (arith, h, n)))
+    (cases_eq m c.loop-k.k)
 
 pub returns-clause-none : goal.returns-clause-none
 returns-clause-none c = λ none k h.

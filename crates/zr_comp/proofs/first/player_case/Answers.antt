@@ -22,7 +22,8 @@ returns-clause-some c = (
 pub loop-k-preserved : goal.loop-k-preserved
 loop-k-preserved c = λ m h has.
     ⊎_elim (λ (e : m ≡ c.loop-k.k).
-    let t = c.has.ensures.1 (subst (λ (n : ℕ). Contains c.args.path.now (Which c.args.i n)) e has) in
+    let t = c.has.ensures.1 (subst (λ (n : ℕ). Contains c.args.path.now (Which c.args.i n)) e
+    has) in
     let f = c.if-has.false in absurd cc)
     (λ (n : m ≡ c.loop-k.k → ⊥). c.loop-k.invariant m (omega (arith, h, n)) has)
     (cases_eq m c.loop-k.k)

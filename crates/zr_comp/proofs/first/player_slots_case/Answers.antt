@@ -12,4 +12,5 @@ loop-k-preserved c = λ m h.
     subst (λ (n : ℕ). IsUsed c.args.path.now c.args.i n
     → AreSlotsDecided (game_of c.args.game.now) (leaves_of c.args.leaves.now) c.args.path.now
     c.args.i n) (sym e) (c.used_case-case.ensures.none none))
-    (λ (n : m ≡ c.loop-k.k → ⊥). c.loop-k.invariant m (omega (arith, h, n))) (cases_eq m c.loop-k.k)
+    (λ (n : m ≡ c.loop-k.k → ⊥). c.loop-k.invariant m (omega (arith, h, n)))
+    (cases_eq m c.loop-k.k)

@@ -10,4 +10,5 @@ loop-i-preserved c = λ j h.
     ⊎_elim (λ (e : j ≡ c.loop-i.i).
     subst (λ (m : ℕ). HasChosen (leaves_of c.args.leaves.now) c.args.path.now m) (sym e)
     (c.player_case-case.ensures.none none))
-    (λ (n : j ≡ c.loop-i.i → ⊥). c.loop-i.invariant j (omega (arith, h, n))) (cases_eq j c.loop-i.i)
+    (λ (n : j ≡ c.loop-i.i → ⊥). c.loop-i.invariant j (omega (arith, h, n)))
+    (cases_eq j c.loop-i.i)

@@ -6,7 +6,8 @@ use Rattle.zr_comp.proofs.path.put_leaves.Given as goal
 abbrev pub invariant-leaves : goal.invariant-leaves
 invariant-leaves l = record {
   left : l.k ≤ l.leaves;
-  due : pending l.due.items ≡ whiches l.path l.i l.k (l.leaves - l.k) ++ pending l.initial.due.items;
+  due : pending l.due.items ≡ whiches l.path l.i l.k (l.leaves - l.k)
+      ++ pending l.initial.due.items;
 }
 
 abbrev pub decreases-leaves : goal.decreases-leaves

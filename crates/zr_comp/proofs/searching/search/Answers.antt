@@ -20,7 +20,13 @@ pub paths-init : goal.paths-init
 paths-init c =
     let z : c.args.purse.now.branches - c.args.purse.now.branches ≡ 0 = omega arith in
     record {
-      growing = rw (z, c.new-nodes.ensures.items, c.in-Ok.ensures, c.new.ensures.items, c.new-due.ensures.items)
+      growing = rw (
+        z,
+        c.new-nodes.ensures.items,
+        c.in-Ok.ensures,
+        c.new.ensures.items,
+        c.new-due.ensures.items,
+      )
           (growing_at_start (game_of c.args.game.now) (leaves_of c.args.leaves.now) c.args.kind);
       spends = record { limit = refl; cuts = refl; pivots = omega arith; branches = omega arith };
     }
@@ -31,7 +37,8 @@ returns-in_default-clause-spends c =
     let leaves = leaves_of c.args.leaves.now in
     spends_cases game leaves c.args.kind [] ([] ∷ []) 0 c.args.purse.now c.args.purse.now
     (growing_at_start game leaves c.args.kind)
-    (record { limit = refl; cuts = refl; pivots = omega arith; branches = omega arith }) (omega arith)
+    (record { limit = refl; cuts = refl; pivots = omega arith; branches = omega arith })
+    (omega arith)
 
 module _ (c : In-Some) where
   abbrev spent : ℕ
@@ -73,7 +80,8 @@ returns-in-Err-clause-cause c = c.in-Err.ensures.cause c.args.purse.now c.visit.
 
 pub returns-in-Err-clause-spends : goal.returns-in-Err-clause-spends
 returns-in-Err-clause-spends c =
-    work_after (goal.at.returns-in-Err-clause-spends c).In-Some c.visit.new.purse c.in-Err.ensures.purse
+    work_after (goal.at.returns-in-Err-clause-spends c).In-Some c.visit.new.purse
+    c.in-Err.ensures.purse
 
 pub returns-in-Ok-Solved-clause-found : goal.returns-in-Ok-Solved-clause-found
 returns-in-Ok-Solved-clause-found c =
@@ -88,13 +96,16 @@ pub paths-preserved-in-Ok-Closed : goal.paths-preserved-in-Ok-Closed
 paths-preserved-in-Ok-Closed c =
     let at = (goal.at.paths-preserved-in-Ok-Closed c).In-Some in
     let purse = c.in-Ok-Closed.ensures.purse in
-    let fate = rw (c.in-Ok-Closed.field-0-is, c.deref.ensures.value) at c.in-Ok-Closed.ensures.fate in
+    let fate = rw (c.in-Ok-Closed.field-0-is, c.deref.ensures.value) at
+    c.in-Ok-Closed.ensures.fate in
     record {
       growing = rw (c.in-Ok-push_node.ensures, purse.branches)
           (close_one (game_of c.args.game.now) (leaves_of c.args.leaves.now) c.args.kind
-          (map rnode_of c.paths.nodes.items) c.in-Some.path.items (pending c.take_next.new.due.items)
+          (map rnode_of c.paths.nodes.items) c.in-Some.path.items
+          (pending c.take_next.new.due.items)
           (spent at) (growing at) c.in-Ok-Closed.mult.items fate);
-      spends = counts_on c.args.purse.now c.paths.purse c.visit.new.purse c.paths.invariant.spends purse;
+      spends = counts_on c.args.purse.now c.paths.purse c.visit.new.purse
+          c.paths.invariant.spends purse;
     }
 
 pub returns-in_default-push_node-clause-spends : goal.returns-in_default-push_node-clause-spends
@@ -104,13 +115,15 @@ returns-in_default-push_node-clause-spends c =
 
 pub divide-requires-clause-case : goal.divide-requires-clause-case
 divide-requires-clause-case c =
-    let fate = rw (c.in-Ok-Divided.field-0-is, c.deref.ensures.value) at c.in-Ok-Divided.ensures.fate in
+    let fate = rw (c.in-Ok-Divided.field-0-is, c.deref.ensures.value) at
+    c.in-Ok-Divided.ensures.fate in
     case_player (game_of c.args.game.now) (leaves_of c.args.leaves.now) c.args.kind
     c.in-Some.path.items c.in-Ok-Divided.case fate.1
 
 pub price-requires-clause-case : goal.price-requires-clause-case
 price-requires-clause-case c =
-    let fate = rw (c.in-Ok-Divided.field-0-is, c.deref.ensures.value) at c.in-Ok-Divided.ensures.fate in
+    let fate = rw (c.in-Ok-Divided.field-0-is, c.deref.ensures.value) at
+    c.in-Ok-Divided.ensures.fate in
     case_player (game_of c.args.game.now) (leaves_of c.args.leaves.now) c.args.kind
     c.in-Some.path.items c.in-Ok-Divided.case fate.1
 
@@ -140,17 +153,21 @@ returns-in_default-pay-clause-cause c =
     let game = game_of c.args.game.now in
     let leaves = leaves_of c.args.leaves.now in
     let case = c.in-Ok-Divided.case in
-    let fate = rw (c.in-Ok-Divided.field-0-is, c.deref.ensures.value) at c.in-Ok-Divided.ensures.fate in
+    let fate = rw (c.in-Ok-Divided.field-0-is, c.deref.ensures.value) at
+    c.in-Ok-Divided.ensures.fate in
     let err = c.in_default-pay.ensures.err in (
       err.0,
-      more_cases game leaves c.args.kind (map rnode_of c.paths.nodes.items ++ case_node case ∷ []) _
+      more_cases game leaves c.args.kind (map rnode_of c.paths.nodes.items
+          ++ case_node case ∷ []) _
           (spent at + case_price leaves case) c.args.purse.now
-          (split_one game leaves c.args.kind (map rnode_of c.paths.nodes.items) c.in-Some.path.items
+          (split_one game leaves c.args.kind (map rnode_of c.paths.nodes.items)
+          c.in-Some.path.items
           (pending c.take_next.new.due.items) (spent at) (growing at) case fate.0 fate.1
           c.in-Ok-divide.ensures.form (few_children leaves c.in-Some.path.items case))
           (full_more c.args.purse.now c.paths.purse c.visit.new.purse c.pay.new.purse
           (case_price leaves case) c.paths.invariant.spends c.in-Ok-Divided.ensures.purse
-          (rw c.price.ensures at c.in_default-pay.ensures.spends) err.0 (rw c.price.ensures at err.1)),
+          (rw c.price.ensures at c.in_default-pay.ensures.spends) err.0
+          (rw c.price.ensures at err.1)),
     )
 
 pub returns-in_default-pay-clause-spends : goal.returns-in_default-pay-clause-spends
@@ -159,7 +176,8 @@ returns-in_default-pay-clause-spends c =
     let game = game_of c.args.game.now in
     let leaves = leaves_of c.args.leaves.now in
     let case = c.in-Ok-Divided.case in
-    let fate = rw (c.in-Ok-Divided.field-0-is, c.deref.ensures.value) at c.in-Ok-Divided.ensures.fate in
+    let fate = rw (c.in-Ok-Divided.field-0-is, c.deref.ensures.value) at
+    c.in-Ok-Divided.ensures.fate in
     let t = rw c.price.ensures at c.in_default-pay.ensures.spends in
     let s = spends_on c.args.purse.now c.visit.new.purse c.pay.new.purse
     (counts_on c.args.purse.now c.paths.purse c.visit.new.purse c.paths.invariant.spends
@@ -167,7 +185,8 @@ returns-in_default-pay-clause-spends c =
     let few = t.few in
     let b = c.in-Ok-Divided.ensures.purse.branches in
     let o = c.paths.invariant.spends.branches in
-    spends_cases game leaves c.args.kind (map rnode_of c.paths.nodes.items ++ case_node case ∷ []) _
+    spends_cases game leaves c.args.kind (map rnode_of c.paths.nodes.items
+    ++ case_node case ∷ []) _
     (spent at + case_price leaves case) c.args.purse.now c.pay.new.purse
     (split_one game leaves c.args.kind (map rnode_of c.paths.nodes.items) c.in-Some.path.items
     (pending c.take_next.new.due.items) (spent at) (growing at) case fate.0 fate.1
@@ -180,7 +199,8 @@ paths-preserved c =
     let game = game_of c.args.game.now in
     let leaves = leaves_of c.args.leaves.now in
     let case = c.in-Ok-Divided.case in
-    let fate = rw (c.in-Ok-Divided.field-0-is, c.deref.ensures.value) at c.in-Ok-Divided.ensures.fate in
+    let fate = rw (c.in-Ok-Divided.field-0-is, c.deref.ensures.value) at
+    c.in-Ok-Divided.ensures.fate in
     let t = rw c.price.ensures at c.in-Ok-pay.ensures.spends in
     let paid = rw c.price.ensures at c.in-Ok-pay.ensures.ok in
     let counts = c.in-Ok-Divided.ensures.purse in
@@ -192,11 +212,13 @@ paths-preserved c =
             (case_price leaves case) c.paths.invariant.spends.branches
             (paid ∙ ap (λ (n : ℕ). n + case_price leaves case) counts.branches),
       )
-          (split_one game leaves c.args.kind (map rnode_of c.paths.nodes.items) c.in-Some.path.items
+          (split_one game leaves c.args.kind (map rnode_of c.paths.nodes.items)
+          c.in-Some.path.items
           (pending c.take_next.new.due.items) (spent at) (growing at) case fate.0 fate.1
           c.in-Ok-divide.ensures.form (few_children leaves c.in-Some.path.items case));
       spends = spends_on c.args.purse.now c.visit.new.purse c.pay.new.purse
-          (counts_on c.args.purse.now c.paths.purse c.visit.new.purse c.paths.invariant.spends counts)
+          (counts_on c.args.purse.now c.paths.purse c.visit.new.purse c.paths.invariant.spends
+          counts)
           t.alone;
     }
 
@@ -212,7 +234,8 @@ paths-smaller c =
     ∙ length-append (children leaves path (case_node case)) mid in
     let old = ap (λ (ps : List (List Choice)). length ps) c.in-Some.ensures in
     let less = less_left c.paths.purse c.visit.new.purse c.pay.new.purse (case_price leaves case)
-    (length (children leaves path (case_node case))) (length mid) c.in-Ok-Divided.ensures.purse t paid
+    (length (children leaves path (case_node case))) (length mid) c.in-Ok-Divided.ensures.purse t
+    paid
     (few_children leaves path case) in
     let r : 2 * (c.pay.new.purse.limit - counted c.pay.new.purse)
     + length (pending c.divide.new.due.items)
@@ -231,7 +254,8 @@ refutation_of-requires c =
     cases_at_end game leaves c.args.kind (map rnode_of c.paths.nodes.items) b
     (omega (arith, w, l, r))
     (subst (λ (ps : List (List Choice)). IsGrowing game leaves c.args.kind
-    (map rnode_of c.paths.nodes.items) ps b) c.in_default-take_next.ensures c.paths.invariant.growing)
+    (map rnode_of c.paths.nodes.items) ps b) c.in_default-take_next.ensures
+    c.paths.invariant.growing)
 
 pub returns-clause-found : goal.returns-clause-found
 returns-clause-found c =
@@ -240,7 +264,8 @@ returns-clause-found c =
     let b = c.paths.purse.branches - c.args.purse.now.branches in
     let s = c.paths.invariant.spends.branches in
     let g = subst (λ (ps : List (List Choice)). IsGrowing game leaves c.args.kind
-    (map rnode_of c.paths.nodes.items) ps b) c.in_default-take_next.ensures c.paths.invariant.growing in
+    (map rnode_of c.paths.nodes.items) ps b) c.in_default-take_next.ensures
+    c.paths.invariant.growing in
     grown_at_end game leaves c.args.kind c.refutation_of.result b c.args.purse.now c.paths.purse
     (omega (arith, s)) (rw c.refutation_of.ensures g)
 
