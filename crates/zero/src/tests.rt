@@ -1,4 +1,5 @@
 mod certificates;
+mod covers;
 mod faults;
 mod followers;
 mod formats;

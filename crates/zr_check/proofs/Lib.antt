@@ -6,6 +6,14 @@ pub mod MadeClaims
 pub mod MadeCosts
 pub mod Passing
 pub mod Narrow
+pub mod Firsts
+pub mod CoverTrees
+pub mod CaseLines
+pub mod CoverRefusals
+pub mod CoverRights
+pub mod CoverWalks
+pub mod ItemSteps
+pub mod CoverRooms
 pub mod Refusals
 pub mod VarPlaces
 pub mod Greatest

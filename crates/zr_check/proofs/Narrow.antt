@@ -30,6 +30,7 @@ use Rattle.zr_check.specs.WideSteps.{HasWidePart, HasWideStep, HeadIsWide, IsWid
 use Rattle.zr_check.proofs.MadeLists.{strategy_is}
 use Rattle.zr_check.proofs.MadeClaims.{in_lowest, one_claim, same_reduced}
 use Rattle.zr_check.proofs.MadeCosts.{claim_of_cost}
+use Rattle.zr_check.proofs.CoverRights.{cover_passes}
 use Rattle.zr_check.proofs.Passing.{right_strategies}
 
 -- steps of which none is too wide give a result
@@ -89,7 +90,7 @@ module _ (game : GameOf) (kind : Kind) (mixtures : List MixtureOf) (right : AreR
       let part = at_number m.parts (length m.parts - 1) (omega (arith, some)) in
       narrow_part i player is m found (length m.parts - 1) part.0 part.1 (inr (inr (last, err)))
 
-module _ (game : GameOf) (form : IsGame game) (kind : Kind) (mixtures : List MixtureOf) (bounds : List BoundOf) (len : length mixtures ≡ length game) (forms : All IsMixtureForm mixtures) (bound_forms : All IsBoundForm bounds) (right : IsRightProfile game kind mixtures bounds) (narrow : VerdictIsWide game (ProfileVerdict mixtures bounds) → ⊥) where
+module _ (game : GameOf) (form : IsGame game) (kind : Kind) (mixtures : List MixtureOf) (bounds : List BoundOf) (len : length mixtures ≡ length game) (forms : All IsMixtureForm mixtures) (bound_forms : All IsBoundForm bounds) (right : IsRightProfile game kind mixtures bounds) (narrow : VerdictIsWide game kind (ProfileVerdict mixtures bounds) → ⊥) where
   -- a bound's cost is made, and its tree passes for the claim that was made
   bound_passes : (i : ℕ) (player : PlayerOf) → IsPlayer game i player → (bound : BoundOf) → slice_get bounds i ≡ Some bound → IsRightBound player i (profile_with mixtures) bound → BoundPasses game mixtures i player bound
   bound_passes i player is bound found b =
@@ -115,10 +116,11 @@ module _ (game : GameOf) (form : IsGame game) (kind : Kind) (mixtures : List Mix
       bound_passes i player is bound found (subst (IsRightBound player i (profile_with mixtures)) same b.2)
 
 module _ (game : GameOf) (form : IsGame game) (kind : Kind) where
-  verdict_passes : (verdict : VerdictOf) → IsVerdictForm (length game) verdict → IsRightVerdict game kind verdict → (VerdictIsWide game verdict → ⊥) → VerdictPasses game kind verdict
+  verdict_passes : (verdict : VerdictOf) → IsVerdictForm (length game) verdict → IsRightVerdict game kind verdict → (VerdictIsWide game kind verdict → ⊥) → VerdictPasses game kind verdict
   verdict_passes (ProfileVerdict mixtures bounds) v right narrow =
       (strategies_pass game kind mixtures right.strategies (λ w. narrow (inl w)), bounds_pass game form kind mixtures bounds v.0 v.1 v.3 right narrow)
-  verdict_passes (CoverVerdict covers named proof) v right narrow = right
+  verdict_passes (CoverVerdict covers named proof) v right narrow =
+      cover_passes game kind covers named proof right narrow
   verdict_passes (BoxVerdict nodes) v right narrow =
       let b = right.1 in
       (right.0, (b.tree, b.listed, boxes_pass_if game b.tree (root_box game) b.right (λ w. narrow (b.tree, b.listed, w))))

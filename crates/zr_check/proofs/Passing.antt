@@ -29,6 +29,7 @@ use Rattle.zr_check.specs.Parts.{PartPasses, StrategiesPass}
 use Rattle.zr_check.specs.Bounds.{BoundPasses, BoundsPass, TreePasses, no_point}
 use Rattle.zr_check.specs.Checks.{CertPasses, VerdictPasses}
 use Rattle.zr_check.specs.WideSteps.{HasWideCost, HasWidePart, HasWideStep, HasWideTree, IsWideTree, VerdictIsWide}
+use Rattle.zr_check.proofs.CoverRights.{narrow_cover, right_cover}
 use Rattle.zr_check.proofs.Refuted.{refuted_if_right}
 use Rattle.zr_check.proofs.Truths.{true_of_right}
 use Rattle.zr_check.proofs.MadeLists.{mixture_at, strategy_is}
@@ -133,7 +134,7 @@ module _ (game : GameOf) (form : IsGame game) (kind : Kind) (mixtures : List Mix
       let same = one_made game mixtures w.i w.player w.value w.bound.cost w.left p.0 w.right p.1 w.made p.2 in
       narrow_if_passes w.player (bound_with p.0 p.1) w.bound.tree p.3 (subst (λ (r : ℤ). IsWideTree w.player (bound_with p.0 r) w.bound.tree) same.2 (subst (λ (l : List ℤ). IsWideTree w.player (bound_with l w.right) w.bound.tree) same.1 w.wide))
 
-  pub narrow_profile : VerdictIsWide game (ProfileVerdict mixtures bounds) → ⊥
+  pub narrow_profile : VerdictIsWide game kind (ProfileVerdict mixtures bounds) → ⊥
   narrow_profile w =
       ⊎_elim narrow_parts (λ (v : HasWideCost game mixtures ⊎ HasWideTree game mixtures bounds). ⊎_elim narrow_costs narrow_trees v) w
 
@@ -146,15 +147,16 @@ module _ (game : GameOf) (form : IsGame game) (kind : Kind) where
   verdict_right : (verdict : VerdictOf) → IsVerdictForm (length game) verdict → VerdictPasses game kind verdict → IsRightVerdict game kind verdict
   verdict_right (ProfileVerdict mixtures bounds) v p =
       right_profile game form kind mixtures bounds v.0 v.1 v.2 p.0 p.1
-  verdict_right (CoverVerdict covers named proof) v p = p
+  verdict_right (CoverVerdict covers named proof) v p = right_cover game kind covers named proof v p
   verdict_right (BoxVerdict nodes) v p =
       (p.0, record { tree = p.1.0; listed = p.1.1; right = (boxes_right game p.1.0 (root_box game) p.1.2).0 })
   verdict_right (EmptyVerdict i nodes) v p = (p.0, p.1, empty_if_passes p.0 nodes v.1 p.2)
 
-  verdict_narrow : (verdict : VerdictOf) → IsVerdictForm (length game) verdict → VerdictPasses game kind verdict → VerdictIsWide game verdict → ⊥
+  verdict_narrow : (verdict : VerdictOf) → IsVerdictForm (length game) verdict → VerdictPasses game kind verdict → VerdictIsWide game kind verdict → ⊥
   verdict_narrow (ProfileVerdict mixtures bounds) v p w =
       narrow_profile game form kind mixtures bounds v.0 v.1 v.2 p.0 p.1 w
-  verdict_narrow (CoverVerdict covers named proof) v p w = p
+  verdict_narrow (CoverVerdict covers named proof) v p w =
+      narrow_cover game kind covers named proof v p w
   verdict_narrow (BoxVerdict nodes) v p w =
       (boxes_right game p.1.0 (root_box game) p.1.2).1 (subst (HasWideBox game (root_box game)) (same_boxes w.0 p.1.0 (w.1 ∙ sym p.1.1)) w.2)
   verdict_narrow (EmptyVerdict i nodes) v p w =

@@ -1,6 +1,5 @@
 -- A certificate that passes isn't refused, and one that is refused has one fault.
-use Rattle.std.proofs.Common.{◌≡◌, ℕ, ◌+◌, ◌<◌, ◌≤◌, arith, sym, ap, subst, ◌∙◌, ℤ, Some, List, length, slice_get, ◌⊎◌, ⊎_elim}
-use Rattle.std.proofs.lemmas.Bool.{cases_lt}
+use Rattle.std.proofs.Common.{◌≡◌, ℕ, ◌+◌, ◌<◌, sym, ap, subst, ◌∙◌, ℤ, List, length, ◌⊎◌, ⊎_elim}
 use Rattle.std.proofs.lemmas.Option.{slice_get_within}
 use Rattle.zr_base.specs.Fractions.{Fraction}
 use Rattle.zr_game.specs.Players.{GameOf, PlayerOf}
@@ -26,38 +25,14 @@ use Rattle.zr_check.specs.Boxes.{BoxesPass, BoxesRefused}
 use Rattle.zr_cert.specs.declared.fault.CertFault.{CertFault}
 use Rattle.zr_cert.specs.declared.fault.CertFault.TheVariants.{Bad, Wide as TooWide}
 use Rattle.zr_cert.specs.Certs.{BoundOf, BoxVerdict, CertOf, CoverVerdict, EmptyVerdict, MixtureOf, ProfileVerdict, VerdictOf}
-use Rattle.zr_check.specs.Firsts.{AllPass, FirstRefused}
 use Rattle.zr_check.specs.Parts.{IsOfLength, IsPartRight, IsWidePart, MixturePasses, MixtureRefused, PartPasses, PartRefused, PlayerPasses, PlayerRefused, StrategiesPass, StrategiesRefused}
-use Rattle.zr_cert.specs.Places.{cost_line_number, player_line_number}
+use Rattle.zr_cert.specs.Places.{case_line_number, cost_line_number, player_line_number}
+use Rattle.zr_check.specs.Covers.{CoversPass, CoversRefused, ProofRefused}
 use Rattle.zr_check.specs.Bounds.{BoundPasses, BoundRefused, BoundsPass, BoundsRefused, CostPasses, CostRefused, IsCostMade, IsWideCost, TreePasses, TreeRefused, at_line, no_point}
 use Rattle.zr_check.specs.Checks.{CertPasses, CertRefused, HeadPasses, HeadRefused, ProfilePasses, ProfileRefused, VerdictPasses, VerdictRefused}
+use Rattle.zr_check.proofs.CoverRefusals.{covers_apart, covers_one, proof_apart, proof_one}
+use Rattle.zr_check.proofs.Firsts.{either_one, first_apart, first_one, in_turn}
 use Rattle.zr_check.proofs.MadeCosts.{made_or_wide, one_made}
-
--- the first item that is refused, where no item both passes and is refused
-module _ {A : Type 0} (Passes : ℕ → A → Type 0) (Refused : ℕ → A → CertFault → Type 0) (apart : (i : ℕ) (x : A) (fault : CertFault) → Passes i x → Refused i x fault → ⊥) (items : List A) where
-  pub first_apart : (fault : CertFault) → AllPass Passes items → FirstRefused Passes Refused items fault → ⊥
-  first_apart fault all r = apart r.at r.item fault (all r.at r.item r.here) r.refused
-
-  pub first_one : ((i : ℕ) (x : A) (f g : CertFault) → Refused i x f → Refused i x g → f ≡ g) → (f g : CertFault) → FirstRefused Passes Refused items f → FirstRefused Passes Refused items g → f ≡ g
-  first_one each f g r s =
-      ⊎_elim (λ (h : r.at < s.at). absurd (apart r.at r.item f (s.before r.at r.item h r.here) r.refused)) (λ (h : s.at ≤ r.at). ⊎_elim (λ (k : s.at < r.at). absurd (apart s.at s.item g (r.before s.at s.item k s.here) s.refused)) (λ (k : r.at ≤ s.at). same (omega (arith, h, k))) (cases_lt s.at r.at)) (cases_lt r.at s.at)
-    where
-      same : r.at ≡ s.at → f ≡ g
-      same e =
-          let found = subst (λ n. slice_get items n ≡ Some r.item) e r.here in
-          let item = one items s.at r.item s.item found s.here in
-          each s.at s.item f g (subst (λ (x : A). Refused s.at x f) item (subst (λ n. Refused n r.item f) e r.refused)) s.refused
-
--- one of two ways to be refused, which exclude each other
-module _ (First Second : CertFault → Type 0) (apart : (f g : CertFault) → First f → Second g → ⊥) (f g : CertFault) where
-  either_one : (First f → First g → f ≡ g) → (Second f → Second g → f ≡ g) → First f ⊎ Second f → First g ⊎ Second g → f ≡ g
-  either_one first second r s =
-      ⊎_elim (λ (a : First f). ⊎_elim (first a) (λ (b : Second g). absurd (apart f g a b)) s) (λ (a : Second f). ⊎_elim (λ (b : First g). absurd (apart g f b a)) (second a) s) r
-
--- a test, and then another where it passes
-in_turn : (P : Type 0) (Rest : CertFault → Type 0) (bad f g : CertFault) → (Rest f → Rest g → f ≡ g) → ((P → ⊥) × (f ≡ bad)) ⊎ (P × Rest f) → ((P → ⊥) × (g ≡ bad)) ⊎ (P × Rest g) → f ≡ g
-in_turn P Rest bad f g rest =
-    either_one (λ x. (P → ⊥) × (x ≡ bad)) (λ x. P × Rest x) (λ x y a b. a.0 b.0) f g (λ a b. a.1 ∙ sym b.1) (λ a b. rest a.1 b.1)
 
 -- a part's line
 module _ (kind : Kind) (player : PlayerOf) (m : MixtureOf) where
@@ -191,7 +166,11 @@ module _ (game : GameOf) (kind : Kind) where
   verdict_apart : (verdict : VerdictOf) (fault : CertFault) → VerdictPasses game kind verdict → VerdictRefused game kind verdict fault → ⊥
   verdict_apart (ProfileVerdict mixtures bounds) fault p r =
       ⊎_elim (λ (a : StrategiesRefused game kind mixtures fault). strategies_apart kind mixtures game fault p.0 a) (λ (a : StrategiesPass game kind mixtures × BoundsRefused game mixtures bounds fault). bounds_apart game mixtures bounds fault p.1 a.1) r
-  verdict_apart (CoverVerdict covers named proof) fault p r = p
+  verdict_apart (CoverVerdict covers named proof) fault p r =
+      ⊎_elim (covers_apart game covers named fault p.0)
+      (λ (a : CoversPass game covers named × ProofRefused game kind covers named proof
+      (case_line_number covers named) fault). proof_apart game kind covers named proof
+      (case_line_number covers named) fault p.1 a.1) r
   verdict_apart (BoxVerdict nodes) fault p r = ⊎_elim (λ a. a.0 p.0) (λ a. boxes_apart game nodes 4 fault p.1 a.1) r
   verdict_apart (EmptyVerdict i nodes) fault p r =
       ⊎_elim (λ a. a.0 (slice_get_within game i p.0 p.1)) (λ a. tree_apart p.0 (no_point p.0) nodes 4 fault p.2 (subst (λ (player : PlayerOf). TreeRefused player (no_point player) nodes 4 fault) (one game i a.0 p.0 a.1 p.1) a.2)) r
@@ -199,7 +178,12 @@ module _ (game : GameOf) (kind : Kind) where
   verdict_one : (verdict : VerdictOf) (f g : CertFault) → VerdictRefused game kind verdict f → VerdictRefused game kind verdict g → f ≡ g
   verdict_one (ProfileVerdict mixtures bounds) f g =
       either_one (StrategiesRefused game kind mixtures) (λ x. StrategiesPass game kind mixtures × BoundsRefused game mixtures bounds x) (λ x y a b. strategies_apart kind mixtures game x b.0 a) f g (strategies_one kind mixtures game f g) (λ a b. bounds_one game mixtures bounds f g a.1 b.1)
-  verdict_one (CoverVerdict covers named proof) f g = λ r s. r ∙ sym s
+  verdict_one (CoverVerdict covers named proof) f g =
+      let line = case_line_number covers named in
+      either_one (CoversRefused game covers named)
+      (λ x. CoversPass game covers named × ProofRefused game kind covers named proof line x)
+      (λ x y a b. covers_apart game covers named x b.0 a) f g (covers_one game covers named f g)
+      (λ a b. proof_one game kind covers named proof line f g a.1 b.1)
   verdict_one (BoxVerdict nodes) f g = in_turn (kind ≡ Pure) (BoxesRefused game nodes 4) (Bad 3) f g (boxes_one game nodes 4 f g)
   verdict_one (EmptyVerdict i nodes) f g =
       either_one (λ x. (i < length game → ⊥) × (x ≡ Bad 3)) (λ x. (player : PlayerOf) × IsPlayer game i player × TreeRefused player (no_point player) nodes 4 x) (λ x y a b. a.0 (slice_get_within game i b.0 b.1)) f g (λ a b. a.1 ∙ sym b.1) (λ a b. tree_one b.0 (no_point b.0) nodes 4 f g (subst (λ (player : PlayerOf). TreeRefused player (no_point player) nodes 4 f) (one game i a.0 b.0 a.1 b.1) a.2) b.2)

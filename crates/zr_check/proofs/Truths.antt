@@ -16,6 +16,9 @@ use Rattle.zr_tree.proofs.Descent.{holds_at_root, none_at_root}
 use Rattle.zr_mix.specs.Checks.{HasClaims}
 use Rattle.zr_mix.proofs.Checking.{enough}
 use Rattle.zr_boxes.proofs.Descent.{no_equilibrium}
+use Rattle.zr_refute.specs.Covered.{covered}
+use Rattle.zr_refute.proofs.CoveredLeaves.{are_covers}
+use Rattle.zr_convex.proofs.Refuted.{has_none}
 use Rattle.zr_cert.specs.Certs.{BoundOf, BoxVerdict, CertOf, CoverVerdict, EmptyVerdict, MixtureOf, ProfileVerdict, VerdictOf, profile_with}
 use Rattle.zr_check.specs.Right.{IsRightCert, IsRightProfile, IsRightVerdict, IsEmptyTree}
 use Rattle.zr_check.specs.Truth.{IsTrueVerdict}
@@ -51,7 +54,10 @@ module _ (game : GameOf) (form : IsGame game) where
   pub true_if_right : (kind : Kind) (verdict : VerdictOf) → IsRightVerdict game kind verdict → IsTrueVerdict game kind verdict
   true_if_right kind (ProfileVerdict mixtures bounds) right =
       (right.strategies.of_kind, enough game form (profile_with mixtures) right.strategies.valid (claims kind mixtures bounds right))
-  true_if_right kind (CoverVerdict covers named proof) right = absurd right
+  true_if_right kind (CoverVerdict covers named proof) right =
+      let covers_are = are_covers game form right.trees named right.shows.covers in
+      has_none game form (covered game right.trees named) covers_are kind right.cases
+      right.shows.refutes
   true_if_right kind (BoxVerdict nodes) right =
       subst (HasNoEquilibrium game) (sym right.0) (no_equilibrium game form right.1.tree right.1.right)
   true_if_right kind (EmptyVerdict i nodes) right = none_if_empty kind i right.0 right.1 nodes right.2

@@ -7,23 +7,27 @@ use Rattle.zr_game.specs.declared.kind.Kind.TheVariants.{Pure}
 use Rattle.zr_cert.specs.declared.fault.CertFault.{CertFault}
 use Rattle.zr_cert.specs.declared.fault.CertFault.TheVariants.{Bad}
 use Rattle.zr_cert.specs.Certs.{BoxVerdict, CertOf, CoverVerdict, EmptyVerdict, ProfileVerdict, VerdictOf}
+use Rattle.zr_cert.specs.Places.{case_line_number}
 use Rattle.zr_check.specs.Boxes.{BoxesPass, BoxesRefused}
+use Rattle.zr_check.specs.Covers.{CoversPass, CoversRefused, ProofPasses, ProofRefused}
 use Rattle.zr_check.specs.Parts.{StrategiesPass, StrategiesRefused}
 use Rattle.zr_check.specs.Bounds.{BoundsPass, BoundsRefused, TreePasses, TreeRefused, no_point}
 
--- Of covers no certificate passes so far.
 abbrev pub VerdictPasses : GameOf → Kind → VerdictOf → Type 0
 VerdictPasses game kind (ProfileVerdict mixtures bounds) = StrategiesPass game kind mixtures × BoundsPass game mixtures bounds
-VerdictPasses game kind (CoverVerdict covers named proof) = ⊥
+VerdictPasses game kind (CoverVerdict covers named proof) =
+    CoversPass game covers named × ProofPasses game kind covers named proof
 VerdictPasses game kind (BoxVerdict nodes) = (kind ≡ Pure) × BoxesPass game nodes
 VerdictPasses game kind (EmptyVerdict i nodes) = (player : PlayerOf) × IsPlayer game i player × TreePasses player (no_point player) nodes
 
--- the lines after the kind's, in their order; the trees of an empty player and of boxes begin at line 4. At line 3 stand boxes
--- of the mixed kind, and the verdict that isn't checked so far
+-- the lines after the kind's, in their order; the trees of an empty player and of boxes begin at
+-- line 4. At line 3 stand boxes of the mixed kind
 abbrev pub VerdictRefused : GameOf → Kind → VerdictOf → CertFault → Type 0
 VerdictRefused game kind (ProfileVerdict mixtures bounds) fault =
     StrategiesRefused game kind mixtures fault ⊎ (StrategiesPass game kind mixtures × BoundsRefused game mixtures bounds fault)
-VerdictRefused game kind (CoverVerdict covers named proof) fault = fault ≡ Bad 3
+VerdictRefused game kind (CoverVerdict covers named proof) fault =
+    CoversRefused game covers named fault
+    ⊎ (CoversPass game covers named × ProofRefused game kind covers named proof (case_line_number covers named) fault)
 VerdictRefused game kind (BoxVerdict nodes) fault =
     ((kind ≡ Pure → ⊥) × (fault ≡ Bad 3)) ⊎ ((kind ≡ Pure) × BoxesRefused game nodes 4 fault)
 VerdictRefused game kind (EmptyVerdict i nodes) fault =

@@ -4,6 +4,8 @@ pub mod Truth
 pub mod Parts
 pub mod Bounds
 pub mod Boxes
+pub mod Covers
+pub mod CoverPlaces
 pub mod Checks
 pub mod WideSteps
 pub mod Rooms

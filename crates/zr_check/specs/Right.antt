@@ -1,5 +1,5 @@
 -- When a certificate is right.
-use Rattle.std.specs.Prelude.{◌≡◌, ℕ, ℤ, Some, List, length, slice_get}
+use Rattle.std.specs.Prelude.{◌≡◌, ℕ, ℤ, Some, List, length, map, slice_get}
 use Rattle.std.specs.List.{All}
 use Rattle.zr_base.specs.Fractions.{IsSame}
 use Rattle.zr_game.specs.Players.{GameOf, PlayerOf}
@@ -12,6 +12,11 @@ use Rattle.zr_tree.specs.Nodes.{NodeOf}
 use Rattle.zr_tree.specs.Trees.{TreeOf, preorder}
 use Rattle.zr_tree.specs.Right.{IsRefuted, IsRight}
 use Rattle.zr_mix.specs.Checks.{IsClaimOf}
+use Rattle.zr_cases.specs.Cases.{RNodeOf}
+use Rattle.zr_cases.specs.Trees.{CasesOf, preorder as case_preorder}
+use Rattle.zr_game.specs.Named.{NamedOf}
+use Rattle.zr_refute.specs.Covered.{ShowsNone, covered}
+use Rattle.zr_refute.specs.Refuting.{leaf_counts}
 use Rattle.zr_cert.specs.Certs.{BoundOf, BoxVerdict, CertOf, CoverVerdict, EmptyVerdict, MixtureOf, ProfileVerdict, VerdictOf, profile_with}
 use Rattle.zr_check.specs.Boxes.{AreRightBoxes}
 
@@ -47,10 +52,20 @@ pub record IsRightProfile (game : GameOf) (kind : Kind) (mixtures : List Mixture
   pub bounds_of : (i : ℕ) (player : PlayerOf) → IsPlayer game i player
       → (bound : BoundOf) × (slice_get bounds i ≡ Some bound) × IsRightBound player i (profile_with mixtures) bound
 
--- A verdict of covers isn't shown by a certificate so far; one of boxes is shown for the pure kind.
+-- the nodes are those of right covers, which hold all points, and of a refutation of the system over
+-- their leaves for the kind; what is named is a feasible point or a ray at one
+pub record IsRightCover (game : GameOf) (kind : Kind) (covers : List (List NodeOf))
+    (named : List (List NamedOf)) (proof : List RNodeOf) : Type 0 where
+  pub trees : List TreeOf
+  pub listed : map preorder trees ≡ covers
+  pub cases : CasesOf
+  pub cases_listed : case_preorder (leaf_counts (covered game trees named)) cases ≡ proof
+  pub shows : ShowsNone game kind trees named cases
+
+-- A verdict of boxes is shown for the pure kind.
 abbrev pub IsRightVerdict : GameOf → Kind → VerdictOf → Type 0
 IsRightVerdict game kind (ProfileVerdict mixtures bounds) = IsRightProfile game kind mixtures bounds
-IsRightVerdict game kind (CoverVerdict covers named proof) = ⊥
+IsRightVerdict game kind (CoverVerdict covers named proof) = IsRightCover game kind covers named proof
 IsRightVerdict game kind (EmptyVerdict i nodes) = (player : PlayerOf) × IsPlayer game i player × IsEmptyTree player nodes
 IsRightVerdict game kind (BoxVerdict nodes) = (kind ≡ Pure) × AreRightBoxes game nodes
 

@@ -16,6 +16,7 @@ ghost use Rattle.zr_check.specs.Benches.{HasBench, IsSameBench};
 
 use crate::boxes::check_boxes;
 use crate::costs::{check_bounds, check_tree};
+use crate::covers::check_covers;
 use crate::room::{Bench, Room, place, var_count};
 use crate::strategies::check_strategies;
 use zr_base::Frac;
@@ -28,10 +29,10 @@ use zr_tree::Tree;
 ///
 /// Line 2 has the number of players. Under a profile the lines of the players and their parts are
 /// tested, and then the players' costs and trees; under an empty player, its number at line 3 and
-/// its tree; under boxes, which are refused at line 3 for the mixed kind, the box tree. A verdict of
-/// covers isn't checked so far and is refused at line 3. Where no line is refused the certificate is
-/// right, no step of its check is too wide, and its verdict is true of the game. `room` has places
-/// for this certificate; it keeps them.
+/// its tree; under covers each player's cover and what is named of the player, and then the
+/// refutation; under boxes, which are refused at line 3 for the mixed kind, the box tree. Where no
+/// line is refused the certificate is right, no step of its check is too wide, and its verdict is
+/// true of the game. `room` has places for this certificate; it keeps them.
 pub fn check_cert(game: &Game, cert: &Cert, room: &mut Room) -> Result<(), CertFault>
     requires { HasRoom (game_of game.now) (cert_of cert.now) room.old }
     ensures ok { OnOk result (CertPasses (game_of game.now) (cert_of cert.now)) }
@@ -55,10 +56,18 @@ pub fn check_cert(game: &Game, cert: &Cert, room: &mut Room) -> Result<(), CertF
             &mut room.bench,
         ),
         Verdict::NoneCover {
-            covers: _,
-            named: _,
-            proof: _,
-        } => Err(CertFault::Bad(3)),
+            covers,
+            named,
+            proof,
+        } => check_covers(
+            game,
+            cert.kind,
+            covers,
+            named,
+            proof,
+            &mut room.bench.scratch,
+            &mut room.covers,
+        ),
         Verdict::NoneEmpty { player, tree } => check_empty(game, *player, tree, &mut room.bench),
         Verdict::NoneBoxes { tree } => check_boxes(game, cert.kind, tree, &mut room.boxes),
     }

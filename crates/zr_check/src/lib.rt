@@ -4,6 +4,8 @@
 mod boxes;
 mod check;
 mod costs;
+mod cover_room;
+mod covers;
 mod laws;
 mod room;
 mod strategies;

@@ -5,17 +5,20 @@ ghost use Rattle.zr_game.specs.Forms.{IsPlayer};
 ghost use Rattle.zr_game.specs.Players.{PlayerOf, players_of};
 ghost use Rattle.zr_tree.specs.Scratches.{most_vars};
 ghost use Rattle.zr_mix.specs.Steps.{place_of};
-ghost use Rattle.zr_cert.specs.Certs.{bound_of, verdict_of};
+ghost use Rattle.zr_cert.specs.Certs.{bound_of, nodes_of, verdict_of};
 ghost use Rattle.zr_cert.specs.Listed.{cert_of};
 ghost use Rattle.zr_check.specs.Rooms.{HasRoom, box_trees_of, trees_of};
 
+use crate::cover_room::room_for_covers;
 use std::alloc::Global;
 use std::marker::Model;
 use zr_base::{Frac, NoMemory};
 use zr_boxes::BoxScratch;
 use zr_cert::{Bound, Cert, Verdict};
 use zr_game::{Game, Player};
-use zr_tree::Scratch;
+use zr_refute::CaseRoom;
+use zr_system::Leaves;
+use zr_tree::{Scratch, Tree};
 
 /// Room for the checks of certificates: it takes memory once and serves many checks.
 #[derive(Drop)]
@@ -24,6 +27,15 @@ pub struct Room {
     pub(crate) means: Vec<Frac>,
     pub(crate) bench: Bench,
     pub(crate) boxes: BoxScratch,
+    /// For a verdict of covers that fits the players.
+    pub(crate) covers: Option<CoverRoom>,
+}
+
+/// The leaves of covers, and room for a refutation over them.
+#[derive(Drop)]
+pub(crate) struct CoverRoom {
+    pub(crate) leaves: Leaves,
+    pub(crate) cases: CaseRoom,
 }
 
 /// Room for the check of one player's bound.
@@ -41,7 +53,7 @@ impl Model for Room {
 
     ghost Value = { RoomOf };
 
-    ghost view = { λ r. record { scratch = r.bench.scratch; means = length r.means.items; slopes = length r.bench.slopes.items; claims = length r.bench.left.items; boxes = r.boxes } };
+    ghost view = { λ r. record { scratch = r.bench.scratch; means = length r.means.items; slopes = length r.bench.slopes.items; claims = length r.bench.left.items; boxes = r.boxes; covers = r.covers } };
 }
 
 /// Room for both checks of this certificate, whose places are enough for it. The call fails for want
@@ -61,10 +73,12 @@ pub fn scratch_for(alloc: Global, game: &Game, cert: &Cert) -> Result<Room, NoMe
         left,
     };
     let boxes = BoxScratch::new(alloc, game, greatest_box_tree(&cert.verdict))?;
+    let covers = room_for_covers(alloc, game, cert)?;
     Ok(Room {
         means,
         bench,
         boxes,
+        covers,
     })
 }
 
@@ -116,11 +130,11 @@ fn greatest_tree(verdict: &Verdict) -> usize
         Verdict::Profile { profile: _, bounds } => greatest_bound(bounds),
         Verdict::NoneEmpty { player: _, tree } => tree.nodes.len(),
         Verdict::NoneCover {
-            covers: _,
+            covers,
             named: _,
             proof: _,
-        }
-        | Verdict::NoneBoxes { tree: _ } => 0,
+        } => greatest_cover(covers),
+        Verdict::NoneBoxes { tree: _ } => 0,
     }
 }
 
@@ -150,6 +164,17 @@ fn greatest_bound(bounds: &[Bound]) -> usize
     let mut most = 0;
     for bound in bounds {
         most = bound.tree.nodes.len().max(most);
+    }
+    most
+}
+
+/// The greatest number of nodes of a cover.
+fn greatest_cover(covers: &[Tree]) -> usize
+    ensures { All (λ nodes. length nodes ≤ result) (map nodes_of covers.now) }
+{
+    let mut most = 0;
+    for cover in covers {
+        most = cover.nodes.len().max(most);
     }
     most
 }

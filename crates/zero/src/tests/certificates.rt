@@ -1,3 +1,4 @@
+use crate::tests::covers::{ENDLESS, ENDLESS_CERT, HULLS, HULLS_CERT, UNBOUNDED, UNBOUNDED_CERT};
 use crate::tests::followers::{GREATEST, GREATEST_CERT};
 use crate::tests::{
     HALF, HALF_CERT, KNAPSACK, KNAPSACK_CERT, PENNIES, PENNIES_CERT, check_over, compare,
@@ -56,33 +57,6 @@ deviate 0 1 0
 end
 ";
 
-/// One player with x of at least 0 and no upper bound, who pays -x.
-const UNBOUNDED: &str =
-    r#"{"format":"zero-game/1","players":[{"name":"A","vars":[{"name":"x"}],"cost":[["x",-1]]}]}"#;
-
-const UNBOUNDED_CERT: &str = "zero-cert/1
-kind mixed 1
-verdict none cover
-known 1 0
-named 0
-close 2 4 1 6 1
-end
-";
-
-/// The same with whole x.
-const ENDLESS: &str =
-    r#"{"format":"zero-game/1","players":[{"name":"A","vars":[{"name":"x","int":true}],"cost":[["x",-1]]}]}"#;
-
-const ENDLESS_CERT: &str = "zero-cert/1
-kind mixed 1
-verdict none cover
-loose
-named 1
-ray 1 0 1
-close 1 4 1
-end
-";
-
 /// A's terms in B's variable alone count in A's cost: y is 1 with probability 1/2.
 #[test]
 fn others_count_in_printed_costs(rt: HostRuntime) -> Result<(), Fail> {
@@ -121,6 +95,7 @@ fn every_cut_is_refused(rt: HostRuntime) -> Result<(), Fail> {
         (HALF, HALF_CERT),
         (GREATEST, GREATEST_CERT),
         (ENDLESS, ENDLESS_CERT),
+        (HULLS, HULLS_CERT),
     ] {
         for count in 0..cert.lines().count() {
             let cut = first_lines(alloc, cert, count)?;
@@ -144,15 +119,5 @@ fn boxes_leave_no_pure_equilibrium(rt: HostRuntime) -> Result<(), Fail> {
     let mixed = with_line(alloc, BOXES_CERT, 2, "kind mixed 2")?;
     let ran = check_over(alloc, PENNIES, mixed.as_str())?;
     compare(&rt, &ran, (6, "", "zero: certificate: line 3: wrong\n"));
-    Ok(())
-}
-
-/// What shows that there is no equilibrium of players who all have points isn't taken yet.
-#[test]
-fn covers_are_refused(rt: HostRuntime) -> Result<(), Fail> {
-    for (game, cert) in [(UNBOUNDED, UNBOUNDED_CERT), (ENDLESS, ENDLESS_CERT)] {
-        let ran = check_over(rt.alloc(), game, cert)?;
-        compare(&rt, &ran, (6, "", "zero: certificate: line 3: wrong\n"));
-    }
     Ok(())
 }

@@ -158,7 +158,7 @@ fn certificates_of_format_2_are_accepted(rt: HostRuntime) -> Result<(), Fail> {
         (
             BOTTOMLESS,
             BOTTOMLESS_CERT,
-            (6, "", "zero: certificate: line 3: wrong\n"),
+            (0, "accepted mixed none\n", ""),
         ),
         (
             TWO_SIDES,
