@@ -1,5 +1,5 @@
 -- The fault of a refutation is that of one of its nodes.
-use Rattle.std.proofs.Common.{◌≡◌, ℕ, zero, suc, ◌+◌, ◌<◌, ◌≤◌, arith, refl, ap, ◌∙◌, ⊎_elim, List, [], ◌∷◌, ◌++◌, length, length-append, map, slice_index_or}
+use Rattle.std.proofs.Common.{◌≡◌, ℕ, zero, suc, ◌+◌, ◌<◌, ◌≤◌, arith, refl, ap, ◌∙◌, ⊎_elim, List, ◌++◌, length, length-append, slice_index_or}
 use Rattle.zr_game.specs.Players.{GameOf}
 use Rattle.zr_game.specs.declared.choice.Choice.{Choice}
 use Rattle.zr_game.specs.declared.choice.Choice.TheVariants as AChoice
@@ -9,7 +9,7 @@ use Rattle.zr_tree.specs.declared.fault.Fault.{Fault}
 use Rattle.zr_tree.specs.declared.fault.Fault.TheVariants as nodes
 use Rattle.zr_cases.specs.Cases.{RNodeOf}
 use Rattle.zr_cases.specs.Trees.{CasesOf, OnOff, RowSplit, Which, Close, lists_below, preorder}
-use Rattle.zr_system.specs.Regions.{LeavesOf, leaf_count}
+use Rattle.zr_system.specs.Regions.{LeavesOf}
 use Rattle.zr_refute.specs.Refuting.{EndRule, leaf_counts, then_choice}
 use Rattle.zr_refute.specs.Steps.{EndRefused, RefusedBy, size, sizes}
 use Rattle.zr_refute.proofs.Walking.{count_is}

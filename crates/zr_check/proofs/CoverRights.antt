@@ -1,5 +1,5 @@
 -- Covers and a refutation that pass are right, and right ones pass where no step is too wide.
-use Rattle.std.proofs.Common.{◌≡◌, ℕ, ◌<◌, arith, sym, subst, ◌∙◌, ◌⊎◌, ⊎_elim, inl, inr, Some, All, List, [], length, map, get_or, slice_get, slice_index_or}
+use Rattle.std.proofs.Common.{◌≡◌, ℕ, arith, sym, subst, ◌∙◌, ◌⊎◌, ⊎_elim, inl, inr, Some, All, List, [], length, get_or, slice_get, slice_index_or}
 use Rattle.std.proofs.lemmas.Option.{get_or_from_slice_get, slice_get-get_or, slice_get_within}
 use Rattle.zr_base.proofs.Members.{all_found}
 use Rattle.zr_game.specs.Forms.{IsPlayer}
@@ -17,7 +17,7 @@ use Rattle.zr_tree.proofs.PassLaws.{passes_if, right_if}
 use Rattle.zr_cases.specs.Cases.{RNodeOf}
 use Rattle.zr_cases.specs.Trees.{CasesOf, preorder as case_preorder}
 use Rattle.zr_system.specs.Regions.{LeavesOf}
-use Rattle.zr_refute.specs.Covered.{AreRightCovers, covered}
+use Rattle.zr_refute.specs.Covered.{covered}
 use Rattle.zr_refute.specs.Refuting.{Closes, RefutesUnder, leaf_counts}
 use Rattle.zr_refute.specs.Steps.{HasWideCase, IsWideEnd, Passes}
 use Rattle.zr_refute.proofs.AlikeCases.{are_alike, wide_alike}
@@ -25,7 +25,7 @@ use Rattle.zr_refute.proofs.PassLaws.{passing}
 use Rattle.zr_cert.specs.Certs.{CoverVerdict}
 use Rattle.zr_cert.specs.Forms.{IsCoverForm}
 use Rattle.zr_check.specs.Checks.{VerdictPasses}
-use Rattle.zr_check.specs.Covers.{CoversPass, ProofPasses}
+use Rattle.zr_check.specs.Covers.{CoversPass}
 use Rattle.zr_check.specs.Right.{IsRightCover}
 use Rattle.zr_check.specs.WideSteps.{HasWideCover, HasWideNamed, HasWideProofCase, VerdictIsWide}
 use Rattle.zr_check.proofs.CoverTrees.{nodes_at, same_trees, tree_at}
@@ -49,6 +49,12 @@ cover_if player t p =
 
 module _ (game : GameOf) (kind : Kind) (covers : List (List NodeOf)) (named : List (List NamedOf))
     (proof : List RNodeOf) where
+  -- a step is too wide in the refutation over the leaves of these trees
+  abbrev IsWideOver : List TreeOf → Type 0
+  IsWideOver trees =
+      (t : CasesOf) × (case_preorder (leaf_counts (covered game trees named)) t ≡ proof)
+      × HasWideCase game (covered game trees named) kind [] t
+
   module _ (form : IsCoverForm (length game) covers named proof)
       (pass : VerdictPasses game kind (CoverVerdict covers named proof)) where
     abbrev trees : List TreeOf
@@ -81,7 +87,7 @@ module _ (game : GameOf) (kind : Kind) (covers : List (List NodeOf)) (named : Li
           let p = (pass.0 i player is nodes_of.0 items_of.0 nodes_of.1 items_of.1).1 in
           let e = get_or_from_slice_get named i items_of.0 [] items_of.1 in
           let all : All (IsNamed player) items_of.0 = λ k d h.
-              (p k (get_or items_of.0 k d) (slice_get-get_or items_of.0 k d h)).0 in
+          (p k (get_or items_of.0 k d) (slice_get-get_or items_of.0 k d h)).0 in
           subst (All (IsNamed player)) (sym e) all
 
     pub right_cover : IsRightCover game kind covers named proof
@@ -117,17 +123,11 @@ module _ (game : GameOf) (kind : Kind) (covers : List (List NodeOf)) (named : Li
     narrow_cases w =
         let leaves = covered game trees named in
         let same = same_trees w.trees trees (w.listed ∙ sym pass.1.1) in
-        let moved = subst (λ (ts : List TreeOf). HasCaseOver ts) same
-            (w.cases, w.cases_listed, w.wide) in
+        let moved = subst IsWideOver same (w.cases, w.cases_listed, w.wide) in
         let alike = are_alike leaves moved.0 pass.1.2.0 (moved.1 ∙ sym pass.1.2.1) in
         let wide = wide_alike leaves game kind (IsWideEnd game leaves) [] moved.0 pass.1.2.0 alike
-            moved.2 in
+        moved.2 in
         (refutes_if game leaves kind pass.1.2.0 pass.1.2.2).1 wide
-      where
-        abbrev HasCaseOver : List TreeOf → Type 0
-        HasCaseOver ts =
-            (t : CasesOf) × (case_preorder (leaf_counts (covered game ts named)) t ≡ proof)
-            × HasWideCase game (covered game ts named) kind [] t
 
     pub narrow_cover : VerdictIsWide game kind (CoverVerdict covers named proof) → ⊥
     narrow_cover w =

@@ -1,5 +1,5 @@
 -- The room for a refutation over the leaves of covers.
-use Rattle.std.proofs.Common.{◌≡◌, ◌≤◌, ℕ, arith, sym, ap, subst, ◌∙◌, Option, Some, None, List, [], ◌∷◌, length, map, get_or, slice_get}
+use Rattle.std.proofs.Common.{◌≡◌, ◌≤◌, ℕ, arith, sym, ap, subst, ◌∙◌, Some, None, List, [], ◌∷◌, length, map, get_or, slice_get}
 use Rattle.std.proofs.lemmas.List.{length-map}
 use Rattle.std.proofs.lemmas.List.Elements.{All-cons, All-nil}
 use Rattle.std.proofs.lemmas.Option.{slice_get-get_or, slice_get_within}
@@ -44,7 +44,7 @@ module _ (game : GameOf) (covers : List (List NodeOf)) (named : List (List Named
   fit_if_pass pass = record {
     covers_count = form.cover_count;
     named_count = form.named_count;
-    items = λ i player is items at k d h.
+    lengths = λ i items at player is k d h.
         let b = slice_get_within game i player is in
         let c = form.cover_count in
         let nodes = at_number covers i (omega (arith, b, c)) in

@@ -10,7 +10,7 @@ use Rattle.zr_tree.specs.Covers.{cover_leaves, high_child, low_child, side_child
 use Rattle.zr_tree.specs.Nodes.{NodeOf}
 use Rattle.zr_tree.specs.Trees.{TreeOf, Split, Choose, Proof, Known, Loose, preorder}
 use Rattle.zr_tree.proofs.Forests.{same_tree, tree_of}
-use Rattle.zr_refute.specs.Covered.{cover_regions, covered, region_with, regions_with}
+use Rattle.zr_refute.specs.Covered.{cover_regions, covered, region_with}
 use Rattle.zr_refute.specs.Refuting.{leaf_counts}
 use Rattle.zr_cert.specs.Forms.{IsCoverNode, IsTreeWith, leaf_count}
 
@@ -64,7 +64,7 @@ nodes_at (t ∷ ts) (n ∷ ns) e (suc i) tree is =
 
 count_append : (xs ys : List NodeOf)
     → leaf_count (xs ++ ys) ≡ leaf_count xs + leaf_count ys
-count_append [] ys = refl
+count_append [] ys = omega arith
 count_append (x ∷ xs) ys = let r = count_append xs ys in omega (arith, r)
 
 -- a cover has a leaf for each of its known and loose nodes
@@ -100,6 +100,6 @@ counts_are (p ∷ ps) [] named e = absurd cc
 counts_are (p ∷ ps) (t ∷ ts) named e =
     let l = length-map (cover_leaves p (root_leaf p) t) region_with in
     let here : length (cover_regions p t) ≡ leaf_count (preorder t) =
-        l ∙ leaves_counted p (root_leaf p) t in
+    l ∙ leaves_counted p (root_leaf p) t in
     let rest = counts_are ps ts named (omega (arith, e)) in
     ap₂ (λ (n : ℕ) (ns : List ℕ). n ∷ ns) here rest

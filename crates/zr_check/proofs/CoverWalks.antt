@@ -1,5 +1,5 @@
 -- A walk through the players' covers with what is named, and one through a player's named items.
-use Rattle.std.proofs.Common.{◌≡◌, ℕ, suc, ◌+◌, ◌<◌, ◌≤◌, ◌≢◌, arith, sym, ap, ap₂, subst, ◌∙◌, ⊎_elim, Some, List, length, take, slice_get}
+use Rattle.std.proofs.Common.{◌≡◌, ℕ, suc, ◌+◌, ◌<◌, ◌≤◌, ◌≢◌, arith, sym, ap₂, subst, ◌∙◌, ⊎_elim, Some, List, length, slice_get}
 use Rattle.std.proofs.lemmas.Bool.{cases_eq}
 use Rattle.std.proofs.lemmas.List.{take_all}
 use Rattle.std.proofs.lemmas.Option.{slice_get_within}

@@ -14,6 +14,8 @@ pub mod CoverRights
 pub mod CoverWalks
 pub mod ItemSteps
 pub mod CoverRooms
+pub mod LengthWalks
+pub mod NamedForms
 pub mod Refusals
 pub mod VarPlaces
 pub mod Greatest

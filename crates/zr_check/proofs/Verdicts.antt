@@ -1,5 +1,5 @@
 -- A certificate's verdict as the code matches it.
-use Rattle.std.proofs.Common.{◌≡◌, ◌<◌, ◌≤◌, ◌+◌, ◌^◌, ℕ, arith, inr, sym, subst, List, length, map, All}
+use Rattle.std.proofs.Common.{◌≡◌, ◌<◌, ◌≤◌, ◌+◌, ◌^◌, ℕ, inr, sym, subst, List, length, map, All}
 use Rattle.zr_game.specs.declared.kind.Kind.{Kind}
 use Rattle.zr_game.specs.Named.{NamedOf}
 use Rattle.zr_game.specs.Players.{GameOf}

@@ -18,20 +18,24 @@ use Rattle.zr_check.specs.declared.room.CoverRoom.{CoverRoom}
 
 -- the places are enough for each of the trees, over every player of the game
 pub record HasTreePlaces (game : GameOf) (trees : List (List NodeOf)) (scratch : Places) : Type 0
-    where
-  pub nodes : All (λ nodes. length nodes ≤ scratch.nodes) trees
-  pub columns : most_vars game ≤ scratch.columns
-  pub vars : most_vars game ≤ scratch.vars
-  pub pairs : most_pairs game ≤ scratch.pairs
+  where
+    pub nodes : All (λ nodes. length nodes ≤ scratch.nodes) trees
+    pub columns : most_vars game ≤ scratch.columns
+    pub vars : most_vars game ≤ scratch.vars
+    pub pairs : most_pairs game ≤ scratch.pairs
 
--- there is a cover and a list of items for each player, and each item has as many numbers as the
--- player has variables
+-- each item of a player has as many numbers as the player has variables
+abbrev pub AreOfLengths : GameOf → List (List NamedOf) → Type 0
+AreOfLengths game named =
+    (i : ℕ) (items : List NamedOf) → slice_get named i ≡ Some items
+    → (player : PlayerOf) → IsPlayer game i player → All (IsItemOfLength (length player.vars)) items
+
+-- there is a cover and a list of items for each player, and the items are of the players' lengths
 pub record FitPlayers (game : GameOf) (covers : List (List NodeOf)) (named : List (List NamedOf)) :
     Type 0 where
   pub covers_count : length covers ≡ length game
   pub named_count : length named ≡ length game
-  pub items : (i : ℕ) (player : PlayerOf) → IsPlayer game i player → (items : List NamedOf)
-      → slice_get named i ≡ Some items → All (IsItemOfLength player) items
+  pub lengths : AreOfLengths game named
 
 -- the room has the covers' leaves, with what is named, and places for the refutation over them
 pub record IsCoverRoom (game : GameOf) (covers : List (List NodeOf)) (named : List (List NamedOf))

@@ -34,11 +34,10 @@ CoverTreeRefused player nodes line fault =
     (t : TreeOf) × (first : Fault) × (preorder t ≡ nodes)
     × IsRefusedCover player 0 (root_leaf player) t first × (fault ≡ at_line line first)
 
--- the item's point, and a ray's direction, have as many numbers as the player has variables
-abbrev pub IsItemOfLength : PlayerOf → NamedOf → Type 0
-IsItemOfLength player (NamedPoint x) = length x.num ≡ length player.vars
-IsItemOfLength player (NamedRay base dir) =
-    (length base.num ≡ length player.vars) × (length dir ≡ length player.vars)
+-- the item's point, and a ray's direction, have so many numbers
+abbrev pub IsItemOfLength : ℕ → NamedOf → Type 0
+IsItemOfLength vars (NamedPoint x) = length x.num ≡ vars
+IsItemOfLength vars (NamedRay base dir) = (length base.num ≡ vars) × (length dir ≡ vars)
 
 -- the first step of the item's test that is too wide
 abbrev pub item_wide : PlayerOf → NamedOf → Option Wide
@@ -47,7 +46,8 @@ item_wide player (NamedRay base dir) = ray_wide player base dir
 
 -- a step of the item's line is too wide; for an item of another length no sum is made
 abbrev pub IsWideItem : PlayerOf → NamedOf → Type 0
-IsWideItem player item = IsItemOfLength player item × IsSome (item_wide player item)
+IsWideItem player item =
+    IsItemOfLength (length player.vars) item × IsSome (item_wide player item)
 
 -- the item is a feasible point, or a ray at one, and no step is too wide
 abbrev pub ItemPasses : PlayerOf → ℕ → NamedOf → Type 0

@@ -1,15 +1,12 @@
 ghost use Rattle.std.specs.Prelude.{◌≡◌, ◌↔◌, ◌+◌, ◌^◌, ◌<◌, IfOk, IsTrue, length, map};
 ghost use Rattle.std.specs.List.{All};
 ghost use Rattle.zr_game.specs.Games.{game_of};
-ghost use Rattle.zr_game.specs.Forms.{IsPlayer};
 ghost use Rattle.zr_game.specs.Named.{named_of};
-ghost use Rattle.zr_game.specs.Players.{PlayerOf};
-ghost use Rattle.zr_cases.specs.Cases.{rnode_of};
 ghost use Rattle.zr_cert.specs.Certs.{cases_of, named_list, nodes_of, verdict_of};
 ghost use Rattle.zr_cert.specs.Forms.{IsCoverForm};
 ghost use Rattle.zr_cert.specs.Lines.{named_lines, sum_lines};
 ghost use Rattle.zr_check.specs.Covers.{IsItemOfLength};
-ghost use Rattle.zr_check.specs.CoverPlaces.{FitPlayers, HasCoverPlaces, HasPlacesFor};
+ghost use Rattle.zr_check.specs.CoverPlaces.{AreOfLengths, FitPlayers, HasCoverPlaces, HasPlacesFor};
 
 use crate::room::CoverRoom;
 use std::alloc::Global;
@@ -80,9 +77,7 @@ fn fit_players(game: &Game, covers: &[Tree], named: &[Vec<Named>]) -> bool
 /// Whether each item has as many numbers as its player has variables.
 fn are_of_lengths(game: &Game, named: &[Vec<Named>]) -> bool
     requires { length named.now ≡ length (game_of game.now) }
-    ensures { IsTrue result ↔ ((i : _) (player : PlayerOf) → IsPlayer (game_of game.now) i player
-        → (items : _) → slice_get (map named_list named.now) i ≡ Some items
-        → All (IsItemOfLength player) items) }
+    ensures { IsTrue result ↔ AreOfLengths (game_of game.now) (map named_list named.now) }
 {
     let mut all = true;
     for i in 0..named.len() {
@@ -93,8 +88,7 @@ fn are_of_lengths(game: &Game, named: &[Vec<Named>]) -> bool
 
 /// Whether each item has so many numbers.
 fn are_of_length(items: &[Named], vars: usize) -> bool
-    ensures { (player : PlayerOf) → length player.vars ≡ vars
-        → (IsTrue result ↔ All (IsItemOfLength player) (map named_of items.now)) }
+    ensures { IsTrue result ↔ All (IsItemOfLength vars) (map named_of items.now) }
 {
     let mut all = true;
     for item in items {
@@ -104,8 +98,7 @@ fn are_of_length(items: &[Named], vars: usize) -> bool
 }
 
 fn is_of_length(item: &Named, vars: usize) -> bool
-    ensures { (player : PlayerOf) → length player.vars ≡ vars
-        → (IsTrue result ↔ IsItemOfLength player (named_of item.now)) }
+    ensures { IsTrue result ↔ IsItemOfLength vars (named_of item.now) }
 {
     match item {
         Named::Point(point) => point.len() == vars,

@@ -176,9 +176,9 @@ fn is_point_or_ray(game: &Game, i: u32, item: &Named) -> Result<bool, Wide>
     requires number { i < length (game_of game.now) }
     requires form { IsNamedForm (named_of item.now) }
     ensures length { (player : PlayerOf) → IsPlayer (game_of game.now) i player
-        → (IsItemOfLength player (named_of item.now) → ⊥) → result ≡ Ok false }
+        → (IsItemOfLength (length player.vars) (named_of item.now) → ⊥) → result ≡ Ok false }
     ensures tells { (player : PlayerOf) → IsPlayer (game_of game.now) i player
-        → IsItemOfLength player (named_of item.now)
+        → IsItemOfLength (length player.vars) (named_of item.now)
         → Tells result (IsNamed player (named_of item.now)) (item_wide player
         (named_of item.now)) }
 {

@@ -1,18 +1,21 @@
-use Rattle.std.proofs.Common.{arith, ◌≡◌, ◌∙◌, Err, refl, sym, ap, ap₂, length, map, List}
+use Rattle.std.proofs.Common.{arith, ◌≡◌, ◌∙◌, sym, ap, ap₂, subst, length, map, List}
 use Rattle.std.proofs.lemmas.List.{length-map}
 use Rattle.std.proofs.lemmas.Result.{MatchResult-weaker, on_ok_weaker}
 use Rattle.zr_game.specs.Games.{game_of}
 use Rattle.zr_game.specs.Players.{player_of}
+use Rattle.std.specs.Global.{Vec}
+use Rattle.zr_game.specs.declared.named.Named.{Named}
 use Rattle.zr_mix.specs.declared.mixture.Strategy.{Strategy}
+use Rattle.zr_tree.specs.declared.tree.Tree.{Tree}
+use Rattle.zr_cases.specs.Cases.{RNodeOf}
 use Rattle.zr_cert.specs.declared.cert.Bound.{Bound}
 use Rattle.zr_cert.specs.Certs.{BoxVerdict, CoverVerdict, EmptyVerdict, ProfileVerdict, bound_of, boxes_of, cases_of, mixture_of, named_list, nodes_of, verdict_of}
-use Rattle.zr_cert.specs.declared.fault.CertFault.TheVariants.{Bad}
 use Rattle.zr_cert.specs.Listed.{cert_of}
-use Rattle.zr_check.specs.Rooms.{RoomOf}
+use Rattle.zr_check.specs.Rooms.{HasRoom, RoomOf}
 use Rattle.zr_check.proofs.Answers.{exact_if, true_if}
-use Rattle.zr_check.proofs.Verdicts.{cert_passes, cert_refused, trees_within}
+use Rattle.zr_check.proofs.Verdicts.{cert_passes, cert_refused, cover_form, cover_lines, cover_places, tree_places, trees_within}
 use Rattle.zr_check.proofs.check.check_cert.Goals as goal
-use Rattle.zr_check.proofs.check.check_cert.Goals.{Else-cert-len}
+use Rattle.zr_check.proofs.check.check_cert.Goals.{After-deref-in-NoneCover-2, Else-cert-len}
 
 count : (c : Else-cert-len) → c.args.cert.now.players ≡ length (game_of c.args.game.now)
 count c =
@@ -62,14 +65,81 @@ pub returns-in-NoneEmpty-clause-sound : goal.returns-in-NoneEmpty-clause-sound
 returns-in-NoneEmpty-clause-sound c =
     true_if (game_of c.args.game.now) c.args.game.now.sound (cert_of c.args.cert.now) c.args.cert.now.sound c.check_empty.result (returns-in-NoneEmpty-clause-ok c)
 
+of_covers : (xs ys : List Tree) (ms ns : List (Vec Named)) (proof : List RNodeOf) → xs ≡ ys
+    → ms ≡ ns → CoverVerdict (map nodes_of ys) (map named_list ns) proof
+    ≡ CoverVerdict (map nodes_of xs) (map named_list ms) proof
+of_covers xs ys ms ns proof e f =
+    ap₂ (λ (us : List Tree) (vs : List (Vec Named)). CoverVerdict (map nodes_of us)
+    (map named_list vs) proof) (sym e) (sym f)
+
+module _ (c : After-deref-in-NoneCover-2) where
+  cover_is : verdict_of c.args.cert.now.verdict
+      ≡ CoverVerdict (map nodes_of c.deref-in-NoneCover.result.now)
+      (map named_list c.deref-in-NoneCover-2.result.now) (cases_of c.in-NoneCover.proof)
+  cover_is =
+      ap verdict_of c.in-NoneCover.is
+      ∙ of_covers c.deref-in-NoneCover.result.now _ c.deref-in-NoneCover-2.result.now _
+      (cases_of c.in-NoneCover.proof) c.deref-in-NoneCover.ensures.value
+      c.deref-in-NoneCover-2.ensures.value
+
+pub check_covers-requires-clause-form : goal.check_covers-requires-clause-form
+check_covers-requires-clause-form c =
+    let cert = c.args.cert.now in
+    let at = goal.at.check_covers-requires-clause-form c in
+    cover_form (game_of c.args.game.now) cert.kind cert.players cert.verdict _ _ _
+    (cover_is at.After-deref-in-NoneCover-2) (count at.Else-cert-len) cert.sound
+
+pub check_covers-requires-clause-lines : goal.check_covers-requires-clause-lines
+check_covers-requires-clause-lines c =
+    let cert = c.args.cert.now in
+    let at = goal.at.check_covers-requires-clause-lines c in
+    cover_lines (game_of c.args.game.now) cert.kind cert.players cert.verdict _ _ _
+    (cover_is at.After-deref-in-NoneCover-2) cert.sound
+
+pub check_covers-requires-clause-scratch : goal.check_covers-requires-clause-scratch
+check_covers-requires-clause-scratch c =
+    let cert = c.args.cert.now in
+    let game = game_of c.args.game.now in
+    let at = goal.at.check_covers-requires-clause-scratch c in
+    let has = subst (HasRoom game (cert_of cert)) (sym c.room.view_is) c.requires in
+    tree_places game cert.kind cert.players cert.verdict _ _ _
+    (cover_is at.After-deref-in-NoneCover-2) _ has
+
+pub check_covers-requires-clause-places : goal.check_covers-requires-clause-places
+check_covers-requires-clause-places c =
+    let cert = c.args.cert.now in
+    let game = game_of c.args.game.now in
+    let at = goal.at.check_covers-requires-clause-places c in
+    let has = subst (HasRoom game (cert_of cert)) (sym c.room.view_is) c.requires in
+    cover_places game cert.kind cert.players cert.verdict _ _ _
+    (cover_is at.After-deref-in-NoneCover-2) _ has
+
+pub returns-in-NoneCover-clause-ok : goal.returns-in-NoneCover-clause-ok
+returns-in-NoneCover-clause-ok c =
+    let cert = c.args.cert.now in
+    let at = goal.at.returns-in-NoneCover-clause-ok c in
+    on_ok_weaker c.check_covers.result (cert_passes (game_of c.args.game.now) cert.kind
+    cert.players (count at.Else-cert-len) cert.verdict _
+    (cover_is at.After-deref-in-NoneCover-2)) c.check_covers.ensures.ok
+
 pub returns-in-NoneCover-clause-err : goal.returns-in-NoneCover-clause-err
 returns-in-NoneCover-clause-err c =
     let cert = c.args.cert.now in
-    cert_refused (game_of c.args.game.now) cert.kind cert.players (count ((goal.at.returns-in-NoneCover-clause-err c).Else-cert-len)) cert.verdict (CoverVerdict (map nodes_of c.in-NoneCover.covers.items) (map named_list c.in-NoneCover.named.items) (cases_of c.in-NoneCover.proof)) (ap verdict_of c.in-NoneCover.is) (Bad 3) refl
+    let at = goal.at.returns-in-NoneCover-clause-err c in
+    MatchResult-weaker c.check_covers.result c.check_covers.ensures.err (λ u h. h)
+    (cert_refused (game_of c.args.game.now) cert.kind cert.players (count at.Else-cert-len)
+    cert.verdict _ (cover_is at.After-deref-in-NoneCover-2))
 
 pub returns-in-NoneCover-clause-exact : goal.returns-in-NoneCover-clause-exact
 returns-in-NoneCover-clause-exact c =
-    exact_if (game_of c.args.game.now) c.args.game.now.sound (cert_of c.args.cert.now) c.args.cert.now.sound (Err (Bad 3)) tt (returns-in-NoneCover-clause-err c)
+    exact_if (game_of c.args.game.now) c.args.game.now.sound (cert_of c.args.cert.now)
+    c.args.cert.now.sound c.check_covers.result (returns-in-NoneCover-clause-ok c)
+    (returns-in-NoneCover-clause-err c)
+
+pub returns-in-NoneCover-clause-sound : goal.returns-in-NoneCover-clause-sound
+returns-in-NoneCover-clause-sound c =
+    true_if (game_of c.args.game.now) c.args.game.now.sound (cert_of c.args.cert.now)
+    c.args.cert.now.sound c.check_covers.result (returns-in-NoneCover-clause-ok c)
 
 pub returns-in-NoneBoxes-clause-ok : goal.returns-in-NoneBoxes-clause-ok
 returns-in-NoneBoxes-clause-ok c =

@@ -19,9 +19,9 @@ at_line-requires c =
     let game = game_of c.args.game.now in
     let leaves = leaves_of c.args.room.now.leaves in
     let t = cases_of (leaf_counts leaves) (map rnode_of c.args.proof.now.nodes.items)
-        c.requires.whole.whole in
+    c.requires.whole.whole in
     let w = case_fault_below (Closes game leaves) (IsWideEnd game leaves) game leaves c.args.kind
-        0 [] t.0 c.in-Err.fault (c.in-Err.ensures.err t.0 t.1) in
+    0 [] t.0 c.in-Err.fault (c.in-Err.ensures.err t.0 t.1) in
     let l = ap length t.1 in
     omega (arith, w, l, c.requires.lines)
 
@@ -29,12 +29,12 @@ pub returns-in-Ok-clause-ok : goal.returns-in-Ok-clause-ok
 returns-in-Ok-clause-ok c =
     let leaves = leaves_of c.args.room.now.leaves in
     let t = cases_of (leaf_counts leaves) (map rnode_of c.args.proof.now.nodes.items)
-        c.requires.whole.whole in
+    c.requires.whole.whole in
     (t.0, t.1, c.in-Ok.ensures.ok t.0 t.1)
 
 pub returns-in-Err-clause-err : goal.returns-in-Err-clause-err
 returns-in-Err-clause-err c =
     let leaves = leaves_of c.args.room.now.leaves in
     let t = cases_of (leaf_counts leaves) (map rnode_of c.args.proof.now.nodes.items)
-        c.requires.whole.whole in
+    c.requires.whole.whole in
     (t.0, c.in-Err.fault, t.1, c.in-Err.ensures.err t.0 t.1, c.at_line.ensures)

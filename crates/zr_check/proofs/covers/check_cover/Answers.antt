@@ -20,7 +20,7 @@ cover-requires-clause-nodes c =
 pub cover-requires-clause-columns : goal.cover-requires-clause-columns
 cover-requires-clause-columns c player is =
     let g = at_most_greatest (λ player. length player.vars) (game_of c.args.game.now) c.args.i
-        player is in
+    player is in
     let m = c.requires.scratch.columns in
     omega (arith, g, m)
 
@@ -29,7 +29,7 @@ at_line-requires c =
     let who = at_number (game_of c.args.game.now) c.args.i c.requires.number in
     let t = tree_of (map node_of c.args.tree.now.nodes.items) c.args.tree.now.whole.whole in
     let w = fault_below (KeepsCover who.0) (IsWideForCover who.0) who.0 0 (root_leaf who.0) t.0
-        c.in-Err.fault (c.in-Err.ensures.err who.0 who.1 t.0 t.1) in
+    c.in-Err.fault (c.in-Err.ensures.err who.0 who.1 t.0 t.1) in
     let s = size_listed t.0 in
     let l = ap length t.1 in
     omega (arith, w, s, l, c.requires.lines)

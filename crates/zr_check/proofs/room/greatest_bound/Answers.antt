@@ -10,7 +10,7 @@ use Rattle.zr_check.proofs.room.greatest_bound.Goals as goal
 pub loop-bound-preserved : goal.loop-bound-preserved
 loop-bound-preserved c =
     let count = c.len.ensures ∙ c.bound-item.result.tree.nodes.ok.0
-        ∙ sym (length-map c.bound-item.result.tree.nodes.items node_of) in
+    ∙ sym (length-map c.bound-item.result.tree.nodes.items node_of) in
     rw c.max-most.ensures (more_within (λ (b : Bound). (bound_of b).tree) c.args.bounds.now
     c.loop-bound.bound-index c.loop-bound.most c.len.result c.bound-item.result
     c.loop-bound-test.true c.bound-item.is count c.loop-bound.invariant)
@@ -18,8 +18,8 @@ loop-bound-preserved c =
 pub returns : goal.returns
 returns c =
     let each = each_within (λ (b : Bound). (bound_of b).tree) c.args.bounds.now
-        c.loop-bound.bound-index c.loop-bound.most c.loop-bound-test.false
-        c.loop-bound.invariant in
+    c.loop-bound.bound-index c.loop-bound.most c.loop-bound-test.false
+    c.loop-bound.invariant in
     let bounds = c.args.bounds.now in
     All-map (λ (nodes : List NodeOf). length nodes ≤ c.loop-bound.most)
     (λ (b : BoundOf). b.tree) (map bound_of bounds)

@@ -8,7 +8,7 @@ use Rattle.zr_check.proofs.room.greatest_cover.Goals as goal
 pub loop-cover-preserved : goal.loop-cover-preserved
 loop-cover-preserved c =
     let count = c.len.ensures ∙ c.cover-item.result.nodes.ok.0
-        ∙ sym (length-map c.cover-item.result.nodes.items node_of) in
+    ∙ sym (length-map c.cover-item.result.nodes.items node_of) in
     rw c.max-most.ensures (more_within nodes_of c.args.covers.now c.loop-cover.cover-index
     c.loop-cover.most c.len.result c.cover-item.result c.loop-cover-test.true c.cover-item.is
     count c.loop-cover.invariant)

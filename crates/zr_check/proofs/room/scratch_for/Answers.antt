@@ -23,4 +23,5 @@ returns c =
       claims = search rules;
       boxes = rw places c.greatest_box_tree.ensures;
       leaves = ap (λ (p : BoxPlaces). p.leaves) places;
+      covers = c.in_ok-covers.ensures;
     }
