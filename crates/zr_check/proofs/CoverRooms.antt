@@ -93,4 +93,5 @@ module _ (game : GameOf) (covers : List (List NodeOf)) (named : List (List Named
           → CasesRefused game (leaves_of room.leaves) kind proof line fault
           → ProofRefused game kind covers named proof line fault
       proof_refused line fault r =
-          (trees, listed, subst (λ (l : LeavesOf). CasesRefused game l kind proof line fault) over r)
+          let moved = subst (λ (l : LeavesOf). CasesRefused game l kind proof line fault) over r in
+          (trees, listed, moved)

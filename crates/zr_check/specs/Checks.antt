@@ -27,7 +27,8 @@ VerdictRefused game kind (ProfileVerdict mixtures bounds) fault =
     StrategiesRefused game kind mixtures fault ⊎ (StrategiesPass game kind mixtures × BoundsRefused game mixtures bounds fault)
 VerdictRefused game kind (CoverVerdict covers named proof) fault =
     CoversRefused game covers named fault
-    ⊎ (CoversPass game covers named × ProofRefused game kind covers named proof (case_line_number covers named) fault)
+    ⊎ (CoversPass game covers named
+    × ProofRefused game kind covers named proof (case_line_number covers named) fault)
 VerdictRefused game kind (BoxVerdict nodes) fault =
     ((kind ≡ Pure → ⊥) × (fault ≡ Bad 3)) ⊎ ((kind ≡ Pure) × BoxesRefused game nodes 4 fault)
 VerdictRefused game kind (EmptyVerdict i nodes) fault =

@@ -1,4 +1,4 @@
--- What is tested at the lines of covers, of the points and rays that are named, and of a refutation.
+-- What is tested at the lines of covers, of named points and rays, and of a refutation.
 use Rattle.std.specs.Prelude.{◌≡◌, ℕ, ◌+◌, Some, Option, IsSome, List, [], length, map, slice_get, ◌⊎◌}
 use Rattle.zr_base.specs.declared.step.Wide.{Wide}
 use Rattle.zr_game.specs.Players.{GameOf, PlayerOf}

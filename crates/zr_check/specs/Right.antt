@@ -65,7 +65,8 @@ pub record IsRightCover (game : GameOf) (kind : Kind) (covers : List (List NodeO
 -- A verdict of boxes is shown for the pure kind.
 abbrev pub IsRightVerdict : GameOf → Kind → VerdictOf → Type 0
 IsRightVerdict game kind (ProfileVerdict mixtures bounds) = IsRightProfile game kind mixtures bounds
-IsRightVerdict game kind (CoverVerdict covers named proof) = IsRightCover game kind covers named proof
+IsRightVerdict game kind (CoverVerdict covers named proof) =
+    IsRightCover game kind covers named proof
 IsRightVerdict game kind (EmptyVerdict i nodes) = (player : PlayerOf) × IsPlayer game i player × IsEmptyTree player nodes
 IsRightVerdict game kind (BoxVerdict nodes) = (kind ≡ Pure) × AreRightBoxes game nodes
 

@@ -1,4 +1,4 @@
-ghost use Rattle.std.specs.Prelude.{◌≡◌, ◌↔◌, ◌+◌, ◌^◌, ◌<◌, IfOk, IsTrue, length, map};
+ghost use Rattle.std.specs.Prelude.{◌≡◌, ◌↔◌, ◌^◌, ◌<◌, IfOk, IsTrue, length, map};
 ghost use Rattle.std.specs.List.{All};
 ghost use Rattle.zr_game.specs.Games.{game_of};
 ghost use Rattle.zr_game.specs.Named.{named_of};

@@ -91,8 +91,8 @@ fn check_players(
     Ok(line)
 }
 
-/// Tests the cover of player `i`, whose first line is `line`, and what is named of the player, whose
-/// lines follow that of their count.
+/// Tests the cover of player `i`, whose first line is `line`, and what is named of the player: its
+/// lines follow the one of their count.
 fn check_player(
     game: &Game,
     i: u32,
