@@ -61,12 +61,24 @@ fn corner(alloc: Global, game: &Game, number: i64) -> Result<Region, Fail>
     })
 }
 
-/// The two points as leaves.
-fn two_leaves(alloc: Global, game: &Game) -> Result<Leaves, Fail>
+/// The two points.
+fn points(alloc: Global, game: &Game) -> Result<Vec<Region>, Fail>
+    requires { 0 < length (game_of game.now) }
+    ensures leaves { (player : PlayerOf) → IsPlayer (game_of game.now) 0 player
+        → IfOk result (λ list. All (λ region. IsLeafOf player region.leaf) list.items) }
+    ensures two { IfOk result (λ list. length list.items ≡ 2) }
+{
+    Ok(vec![in alloc; corner(alloc, game, 0)?, corner(alloc, game, 1)?]?)
+}
+
+/// The leaves of the only player, with nothing named and no cuts.
+fn alone(alloc: Global, game: &Game, points: Vec<Region>) -> Result<Leaves, Fail>
     requires players { length (game_of game.now) ≡ 1 }
+    requires leaves { (player : PlayerOf) → IsPlayer (game_of game.now) 0 player
+        → All (λ region. IsLeafOf player region.leaf) points.items }
+    requires few { length points.items < 4294967296 }
     ensures { IfOk result (AreLeaves (game_of game.now)) }
 {
-    let points = vec![in alloc; corner(alloc, game, 0)?, corner(alloc, game, 1)?]?;
     Ok(Leaves {
         regions: vec![in alloc; points]?,
         named: vec![in alloc; Vec::new(alloc)]?,
@@ -80,7 +92,8 @@ fn answer(alloc: Global, on: bool, off: bool) -> Result<Reply, Fail> {
     if player_count(&game) != 1 {
         return Err(Fail::from("another game"));
     }
-    let leaves = two_leaves(alloc, &game)?;
+    let points = points(alloc, &game)?;
+    let leaves = alone(alloc, &game, points)?;
     let order = unknowns(alloc, &game, &leaves).map_err(|_| "no memory")?;
     if order.len() != 9 || leaf_count(&game, &leaves, 0) != 2 {
         return Err(Fail::from("another system"));
