@@ -86,7 +86,8 @@ weak_form low m [] a = tt
 weak_form low m (t ∷ ts) a = (a.0, a.1, a.2.0, weak_form (t.0 + 1) m ts a.3)
 
 module _ (game : GameOf) (leaves : LeavesOf) (path : List Choice) (lp : Lp)
-    (asks : Asks (is_free game leaves) (length (columns game leaves)) (system_rows game leaves path) lp)
+    (asks : Asks (is_free game leaves) (length (columns game leaves))
+    (system_rows game leaves path) lp)
     (form : All (IsIneq (length (columns game leaves))) (system_rows game leaves path))
     (mult extra : Terms) (listed : AreListed lp mult extra) where
   abbrev pub free : ℕ → Bool
@@ -117,7 +118,8 @@ module _ (game : GameOf) (leaves : LeavesOf) (path : List Choice) (lp : Lp)
 
   pub extra_up : (c : ℕ) → (pos 0) ≤ℤ coef_at extra c
   extra_up c =
-      from_zero 0 (place (is_free game leaves) (length (columns game leaves)) + 1) extra c good_extra
+      from_zero 0 (place (is_free game leaves) (length (columns game leaves)) + 1) extra c
+      good_extra
 
   pub mult_up : (r : ℕ) → (pos 0) ≤ℤ coef_at mult r
   mult_up r = from_zero 0 (length (system_rows game leaves path) + 1) mult r good
@@ -200,7 +202,8 @@ module _ (game : GameOf) (leaves : LeavesOf) (path : List Choice) (lp : Lp)
         lp.columns extra listed.narrow.1)
         ∙ sum_columns (is_free game leaves) (length (columns game leaves)) (extra_product f)
         ∙ sum_to_same (length (columns game leaves))
-        (λ j. own_sum (is_free game leaves j) (place (is_free game leaves) j) (extra_product f)) (extra_term f)
+        (λ j. own_sum (is_free game leaves j) (place (is_free game leaves) j) (extra_product f))
+        (extra_term f)
         (λ j h. each j h)
       where
         coef_is : (c : ℕ) → c < place (is_free game leaves) (length (columns game leaves))
@@ -210,11 +213,13 @@ module _ (game : GameOf) (leaves : LeavesOf) (path : List Choice) (lp : Lp)
             (first_coef_at (place (is_free game leaves) (length (columns game leaves))) extra c h)
 
         each : (j : ℕ) → j < length (columns game leaves)
-            → own_sum (is_free game leaves j) (place (is_free game leaves) j) (extra_product f) ≡ extra_term f j
+            → own_sum (is_free game leaves j) (place (is_free game leaves) j) (extra_product f)
+            ≡ extra_term f j
         each j h = by (is_free game leaves j) refl
           where
             by : (b : Bool) → is_free game leaves j ≡ b
-                → own_sum (is_free game leaves j) (place (is_free game leaves) j) (extra_product f) ≡ extra_term f j
+                → own_sum (is_free game leaves j) (place (is_free game leaves) j)
+                (extra_product f) ≡ extra_term f j
             by true e =
                 let z = free_extras j h e in
                 let x = coef_is (place (is_free game leaves) j)
@@ -223,14 +228,18 @@ module _ (game : GameOf) (leaves : LeavesOf) (path : List Choice) (lp : Lp)
                 ∙ zero_times (f (row_of game leaves path (place (is_free game leaves) j))) in
                 let y = coef_is (place (is_free game leaves) j + 1)
                 (second_below (is_free game leaves) j (length (columns game leaves)) h e)
-                ∙ ap (λ y. y *ℤ f (row_of game leaves path (place (is_free game leaves) j + 1))) z.1
+                ∙ ap (λ y. y *ℤ f (row_of game leaves path (place (is_free game leaves) j + 1)))
+                z.1
                 ∙ zero_times (f (row_of game leaves path (place (is_free game leaves) j + 1))) in
-                let o : own_sum (is_free game leaves j) (place (is_free game leaves) j) (extra_product f)
-                ≡ extra_product f (place (is_free game leaves) j) +ℤ extra_product f (place (is_free game leaves) j + 1) = rw e refl in
+                let o : own_sum (is_free game leaves j) (place (is_free game leaves) j)
+                (extra_product f)
+                ≡ extra_product f (place (is_free game leaves) j)
+                +ℤ extra_product f (place (is_free game leaves) j + 1) = rw e refl in
                 let t = term_free f j e in
                 omega (arith, ints, o, x, y, t)
             by false e =
-                let o : own_sum (is_free game leaves j) (place (is_free game leaves) j) (extra_product f)
+                let o : own_sum (is_free game leaves j) (place (is_free game leaves) j)
+                (extra_product f)
                 ≡ extra_product f (place (is_free game leaves) j) = rw e refl in
                 o ∙ coef_is (place (is_free game leaves) j)
                 (place_below (is_free game leaves) j (length (columns game leaves)) h)
@@ -242,7 +251,8 @@ module _ (game : GameOf) (leaves : LeavesOf) (path : List Choice) (lp : Lp)
           ≡ sum_to (length (system_rows game leaves path)) (λ r. coef_at mult r *ℤ f r)
       mult_value f =
           value_dense 0 (length lp.rows.items) mult f listed.narrow.0
-          ∙ ap (λ (k : ℕ). sum_to k (λ r. coef_at mult r *ℤ f r)) (count ∙ add-one (length (system_rows game leaves path)))
+          ∙ ap (λ (k : ℕ). sum_to k (λ r. coef_at mult r *ℤ f r))
+          (count ∙ add-one (length (system_rows game leaves path)))
           ∙ (let z = ap (λ y. y *ℤ f (length (system_rows game leaves path))) end
           ∙ zero_times (f (length (system_rows game leaves path))) in omega (arith, ints, z))
         where
@@ -253,7 +263,8 @@ module _ (game : GameOf) (leaves : LeavesOf) (path : List Choice) (lp : Lp)
 
       module _ (list : Terms) (are : AreAtLeastOne 4294967296 list)
           (sums : (f : ℕ → ℤ) → value_at list f ≡ value_at mult f
-          +ℤ value_at (first_terms (place (is_free game leaves) (length (columns game leaves))) extra)
+          +ℤ value_at (first_terms (place (is_free game leaves) (length (columns game leaves)))
+          extra)
           (λ k. f (row_of game leaves path k))) where
         pub list_value : (f : ℕ → ℤ) → value_at list f
             ≡ sum_to (length (system_rows game leaves path)) (λ r. coef_at mult r *ℤ f r)
@@ -336,7 +347,8 @@ module _ (game : GameOf) (leaves : LeavesOf) (path : List Choice) (lp : Lp)
 
         pub list_form : AscendWith IsMultiplier 0 (length (system_rows game leaves path)) list
         list_form =
-            cut_to 0 (length (system_rows game leaves path)) 4294967296 list are (λ k h. none_past k h)
+            cut_to 0 (length (system_rows game leaves path)) 4294967296 list are
+            (λ k h. none_past k h)
 
         pub list_multipliers : AreMultipliers (length (system_rows game leaves path)) list
         list_multipliers = weak_form 0 (length (system_rows game leaves path)) list list_form

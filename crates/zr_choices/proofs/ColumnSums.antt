@@ -25,7 +25,8 @@ module _ (free : ℕ → Bool) where
   pub sum_columns : (n : ℕ) (g : ℕ → ℤ)
       → sum_to (place free n) g ≡ sum_to n (λ j. own_sum (free j) (place free j) g)
   sum_columns zero g = refl
-  sum_columns (suc n) g = by (free n) ∙ ap (λ z. z +ℤ own_sum (free n) (place free n) g) (sum_columns n g)
+  sum_columns (suc n) g = by (free n) ∙ ap (λ z. z +ℤ own_sum (free n) (place free n) g)
+      (sum_columns n g)
     where
       by : (b : Bool) → sum_to (place free n + (if b then 2 else 1)) g
           ≡ sum_to (place free n) g +ℤ own_sum b (place free n) g
@@ -38,8 +39,10 @@ module _ (free : ℕ → Bool) where
   column_of zero c h = absurd (omega (arith, h))
   column_of (suc n) c h = by (free n) refl h (column_of n c)
     where
-      earlier : (j : ℕ) × (j < n) × ((c ≡ place free j) ⊎ ((free j ≡ true) × (c ≡ place free j + 1)))
-          → (j : ℕ) × (j < suc n) × ((c ≡ place free j) ⊎ ((free j ≡ true) × (c ≡ place free j + 1)))
+      earlier : (j : ℕ) × (j < n) × ((c ≡ place free j)
+          ⊎ ((free j ≡ true) × (c ≡ place free j + 1)))
+          → (j : ℕ) × (j < suc n) × ((c ≡ place free j)
+          ⊎ ((free j ≡ true) × (c ≡ place free j + 1)))
       earlier r = let a = r.1 in (r.0, omega (arith, a), r.2)
 
       below_or_at : (k : ℕ) → c < k + 1 → (c < k) ⊎ (c ≡ k)
@@ -47,13 +50,15 @@ module _ (free : ℕ → Bool) where
           ⊎_elim (λ (e : c ≡ k). inr e) (λ (a : c ≢ k). inl (omega (arith, q, a))) (cases_eq c k)
 
       here : c ≡ place free n
-          → (j : ℕ) × (j < suc n) × ((c ≡ place free j) ⊎ ((free j ≡ true) × (c ≡ place free j + 1)))
+          → (j : ℕ) × (j < suc n) × ((c ≡ place free j)
+          ⊎ ((free j ≡ true) × (c ≡ place free j + 1)))
       here e = (n, omega arith, inl e)
 
       by : (b : Bool) → free n ≡ b → c < place free n + (if b then 2 else 1)
           → (c < place free n → (j : ℕ) × (j < n)
           × ((c ≡ place free j) ⊎ ((free j ≡ true) × (c ≡ place free j + 1))))
-          → (j : ℕ) × (j < suc n) × ((c ≡ place free j) ⊎ ((free j ≡ true) × (c ≡ place free j + 1)))
+          → (j : ℕ) × (j < suc n) × ((c ≡ place free j)
+          ⊎ ((free j ≡ true) × (c ≡ place free j + 1)))
       by true f q rest =
           ⊎_elim (λ (l : c < place free n + 1). ⊎_elim (λ (m : c < place free n). earlier (rest m))
           (λ (e : c ≡ place free n). here e) (below_or_at (place free n) l))

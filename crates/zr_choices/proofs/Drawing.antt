@@ -50,26 +50,36 @@ times_if d z h = (_, sym (quot_exact z (pos d) h))
 
 divides_if : (d : ℕ) (z : ℤ) → Times d z → d ∣ unsigned_abs z
 divides_if d z t =
-    let e : unsigned_abs z ≡ unsigned_abs t.0 * d = ap unsigned_abs t.1 ∙ unsigned_abs-mul t.0 (pos d) in
+    let e : unsigned_abs z ≡ unsigned_abs t.0 * d = ap unsigned_abs t.1
+    ∙ unsigned_abs-mul t.0 (pos d) in
     subst (λ (n : ℕ). d ∣ n) (sym e) (dvd-mul_left d (unsigned_abs t.0))
 
 times_zero : (d : ℕ) → Times d (pos 0)
 times_zero d = (pos 0, omega (arith, ints))
 
 times_add : (d : ℕ) (a b : ℤ) → Times d a → Times d b → Times d (a +ℤ b)
-times_add d a b s t = (s.0 +ℤ t.0, ap₂ (λ x y. x +ℤ y) s.1 t.1 ∙ sym (mul-add_right s.0 t.0 (pos d)))
+times_add d a b s t = (
+  s.0 +ℤ t.0,
+  ap₂ (λ x y. x +ℤ y) s.1 t.1
+      ∙ sym (mul-add_right s.0 t.0 (pos d)),
+)
 
 times_mul : (d : ℕ) (k a : ℤ) → Times d a → Times d (a *ℤ k)
 times_mul d k a t =
     (k *ℤ t.0, *ℤ_comm a k ∙ ap (λ z. k *ℤ z) t.1 ∙ sym (mul_assoc k t.0 (pos d)))
 
 times_neg : (d : ℕ) (z : ℤ) → Times d z → Times d (neg_ℤ z)
-times_neg d z t = (neg_ℤ t.0, (let h = t.1 in let m = neg-mul_left t.0 (pos d) in omega (arith, ints, h, m)))
+times_neg d z t = (
+  neg_ℤ t.0,
+  (let h = t.1 in let m = neg-mul_left t.0 (pos d) in omega
+      (arith, ints, h, m)),
+)
 
 times_sum : (d n : ℕ) (f : ℕ → ℤ) → ((j : ℕ) → j < n → Times d (f j)) → Times d (sum_to n f)
 times_sum d zero f all = times_zero d
 times_sum d (suc n) f all =
-    times_add d (sum_to n f) (f n) (times_sum d n f (λ j h. all j (omega (arith, h)))) (all n (omega arith))
+    times_add d (sum_to n f) (f n) (times_sum d n f (λ j h. all j (omega (arith, h))))
+    (all n (omega arith))
 
 -- how far one number is past another
 at_distance : (a b : ℕ) → a ≤ b → (r : ℕ) × (b ≡ a + r)
@@ -113,11 +123,13 @@ one_term true x y s e = let n = neg-mul_left s y in omega (arith, ints, e, n)
 one_term false x y s e = omega (arith, ints)
 
 module _ (game : GameOf) (leaves : LeavesOf) (path : List Choice) (lp : Lp)
-    (asks : Asks (is_free game leaves) (length (columns game leaves)) (system_rows game leaves path) lp)
+    (asks : Asks (is_free game leaves) (length (columns game leaves))
+    (system_rows game leaves path) lp)
     (lp_good : IsLp lp) where
   aim_is : (c : ℕ) → numbers lp.aim.items c ≡ last_raised (last_column game leaves) c
   aim_is c =
-      ⊎_elim (λ (h : c < last_column game leaves). asks.aim c h ∙ sym (low (λ e. omega (arith, e, h))))
+      ⊎_elim (λ (h : c < last_column game leaves). asks.aim c h
+      ∙ sym (low (λ e. omega (arith, e, h))))
       (λ (h : last_column game leaves ≤ c). ⊎_elim
       (λ (e : c ≡ last_column game leaves). ap (numbers lp.aim.items) e ∙ asks.last ∙ sym (top e))
       (λ (e : c ≢ last_column game leaves).
@@ -128,14 +140,18 @@ module _ (game : GameOf) (leaves : LeavesOf) (path : List Choice) (lp : Lp)
       (below_or c (last_column game leaves))
     where
       low : c ≢ last_column game leaves → last_raised (last_column game leaves) c ≡ pos 0
-      low n = let t : (c == last_column game leaves) ≡ false = grind (arith, nat_tests, n) in rw t refl
+      low n = let t : (c == last_column game leaves)
+          ≡ false = grind (arith, nat_tests, n) in rw t refl
 
       top : c ≡ last_column game leaves → last_raised (last_column game leaves) c ≡ negsuc 0
-      top e = let t : (c == last_column game leaves) ≡ true = grind (arith, nat_tests, e) in rw t refl
+      top e = let t : (c == last_column game leaves)
+          ≡ true = grind (arith, nat_tests, e) in rw t refl
 
   rows_count : length lp.rows.items
-      ≡ length (parted_rows (is_free game leaves) (length (columns game leaves)) (system_rows game leaves path))
-  rows_count = sym (length-map lp.rows.items ineq_of) ∙ ap (λ (rs : List IneqOf). length rs) asks.parts
+      ≡ length (parted_rows (is_free game leaves) (length (columns game leaves))
+      (system_rows game leaves path))
+  rows_count = sym (length-map lp.rows.items ineq_of)
+      ∙ ap (λ (rs : List IneqOf). length rs) asks.parts
 
   -- the program is that of the path
   pub program_same : program_of lp ≡ choices_program game leaves path
@@ -176,7 +192,8 @@ module _ (game : GameOf) (leaves : LeavesOf) (path : List Choice) (lp : Lp)
     number_is : (r : ℕ) → neg_ℤ (coef_at list r)
         ≡ sum_to m (λ k. coef_at mult k *ℤ at_column k (negsuc 0) r) +ℤ sum_to n (term r)
     number_is r =
-        number_in game leaves path lp asks form_rows mult extra listed columns_are end list are sums r
+        number_in game leaves path lp asks form_rows mult extra listed columns_are end list are
+        sums r
 
     own_number : (r : ℕ) → r < m
         → sum_to m (λ k. coef_at mult k *ℤ at_column k (negsuc 0) r) ≡ neg_ℤ (coef_at mult r)
@@ -196,7 +213,8 @@ module _ (game : GameOf) (leaves : LeavesOf) (path : List Choice) (lp : Lp)
         term_bound game leaves path lp asks form_rows mult extra listed
         (λ k. at_column k (negsuc 0) r) j e
 
-    term_by : (r j : ℕ) → (free j ≡ false → coef_at extra (place free j) *ℤ at_column (at j) (negsuc 0) r ≡ pos 0)
+    term_by : (r j : ℕ) → (free j ≡ false → coef_at extra (place free j)
+        *ℤ at_column (at j) (negsuc 0) r ≡ pos 0)
         → term r j ≡ pos 0
     term_by r j z = by (free j) refl
       where
@@ -257,7 +275,8 @@ module _ (game : GameOf) (leaves : LeavesOf) (path : List Choice) (lp : Lp)
                 ⊎_elim (λ (k : i < j).
                 let r = rows_rise game leaves path i j k h e f in omega (arith, r, s))
                 (λ (k : j ≤ i).
-                let r = rows_rise game leaves path j i (omega (arith, k, q)) l f e in omega (arith, r, s))
+                let r = rows_rise game leaves path j i (omega (arith, k, q)) l f e in omega
+                (arith, r, s))
                 (below_or i j)
 
     module _ (basis : ℕ → ℕ) (form : ℕ → ℕ → ℤ) (row : ℕ)
@@ -269,7 +288,8 @@ module _ (game : GameOf) (leaves : LeavesOf) (path : List Choice) (lp : Lp)
       -- the equation's number at an unknown's column, where the row is the unknown's
       abbrev kept : ℕ → ℕ → ℤ
       kept r j =
-          if keeps_up (get_or (all_lines game leaves path) r no_line) (get_or (columns game leaves) j One)
+          if keeps_up (get_or (all_lines game leaves path) r no_line)
+          (get_or (columns game leaves) j One)
           then form row (place (is_free game leaves) j) else pos 0
 
       term_is : (r j : ℕ) → r < m → j < n → term r j ≡ neg_ℤ sign *ℤ kept r j
@@ -287,7 +307,8 @@ module _ (game : GameOf) (leaves : LeavesOf) (path : List Choice) (lp : Lp)
               let p = place_below free j n l in
               bound_term r j f
               ∙ one_term (at j == r) (coef_at extra (place free j)) (form row (place free j)) sign
-              (of.extras (place free j) (omega (arith, w, p)) ∙ signed_is negated (form row (place free j)))
+              (of.extras (place free j) (omega (arith, w, p))
+              ∙ signed_is negated (form row (place free j)))
               ∙ ap (λ (b : Bool). neg_ℤ sign *ℤ (if b then form row (place free j) else pos 0)) k
 
       row_is : (r : ℕ) → r < m → coef_at list r
@@ -299,9 +320,11 @@ module _ (game : GameOf) (leaves : LeavesOf) (path : List Choice) (lp : Lp)
           ∙ sum_to-mul n (neg_ℤ sign) (kept r) in
           let c = neg-mul_left sign (sum_to n (kept r)) in
           let k = lp_count free n (system_rows game leaves path) lp asks in
-          let u = of.multipliers r (omega (arith, h, k)) ∙ signed_is negated (form row (lp.columns + r))
+          let u = of.multipliers r (omega (arith, h, k))
+          ∙ signed_is negated (form row (lp.columns + r))
           ∙ ap (λ (i : ℕ). sign *ℤ form row (i + r)) asks.width in
-          let s = mul-add_left sign (form row (last_column game leaves + 1 + r)) (sum_to n (kept r)) in
+          let s = mul-add_left sign (form row (last_column game leaves + 1 + r))
+          (sum_to n (kept r)) in
           omega (arith, ints, v, a, b, c, u, s)
 
       proportion : AreInProportion game leaves path (form row) list
@@ -351,16 +374,19 @@ module _ (game : GameOf) (leaves : LeavesOf) (path : List Choice) (lp : Lp)
             (neg_ℤ (form row (value_column (program_of lp)) *ℤ numbers lp.aim.items j))
             (times_sum d (length lp.rows.items)
             (λ r. form row (lp.columns + r) *ℤ (program_of lp).coef r j)
-            (λ r l. times_mul d ((program_of lp).coef r j) (form row (lp.columns + r)) (slack_times r l)))
+            (λ r l. times_mul d ((program_of lp).coef r j) (form row (lp.columns + r))
+            (slack_times r l)))
             (times_neg d (form row (value_column (program_of lp)) *ℤ numbers lp.aim.items j)
-            (times_mul d (numbers lp.aim.items j) (form row (value_column (program_of lp))) value_times)))
+            (times_mul d (numbers lp.aim.items j) (form row (value_column (program_of lp)))
+            value_times)))
 
         right_times : Times d (form row (right_column (program_of lp)))
         right_times =
             subst (Times d) (sym (is_form.combination row below).right)
             (times_sum d (length lp.rows.items)
             (λ r. form row (lp.columns + r) *ℤ (program_of lp).le r)
-            (λ r h. times_mul d ((program_of lp).le r) (form row (lp.columns + r)) (slack_times r h)))
+            (λ r h. times_mul d ((program_of lp).le r) (form row (lp.columns + r))
+            (slack_times r h)))
 
         each : (j : ℕ) → j < lp.columns + length lp.rows.items + 2 → Times d (form row j)
         each j h =
@@ -381,7 +407,8 @@ module _ (game : GameOf) (leaves : LeavesOf) (path : List Choice) (lp : Lp)
             slack i l k =
                 let r = at_distance lp.columns i l in
                 let f : i ≡ lp.columns + r.0 = r.1 in
-                subst (λ (x : ℕ). Times d (form row x)) (sym f) (slack_times r.0 (omega (arith, k, f)))
+                subst (λ (x : ℕ). Times d (form row x)) (sym f)
+                (slack_times r.0 (omega (arith, k, f)))
 
         one : d ≡ 1
         one = is_form.primitive row below d (λ j h. divides_if d (form row j) (each j h))
@@ -407,10 +434,13 @@ module _ (game : GameOf) (leaves : LeavesOf) (path : List Choice) (lp : Lp)
           zero_there : form row (value_column (program_of lp)) ≡ pos 0
           zero_there =
               ap (form row) (sym is_form.value)
-              ∙ is_form.other row (length lp.rows.items) below (omega arith) (λ q. omega (arith, less, q))
+              ∙ is_form.other row (length lp.rows.items) below (omega arith)
+              (λ q. omega (arith, less, q))
 
-      -- the number at the value is a combination of the multipliers where that at the last column is 0
-      pub drawn_least : form row (place (is_free game leaves) (length (columns game leaves))) ≡ pos 0
+      -- the number at the value is a combination of the multipliers where that at the last column
+      -- is 0
+      pub drawn_least : form row (place (is_free game leaves) (length (columns game leaves)))
+          ≡ pos 0
           → AreDrawn game leaves path list
       drawn_least zero_last =
           drawn_if (λ d slacks. subst (Times d) (sym value_is)
@@ -418,7 +448,8 @@ module _ (game : GameOf) (leaves : LeavesOf) (path : List Choice) (lp : Lp)
           (λ r. form row (lp.columns + r) *ℤ (program_of lp).coef r (place free n)))
           (times_sum d (length lp.rows.items)
           (λ r. form row (lp.columns + r) *ℤ (program_of lp).coef r (place free n))
-          (λ r l. times_mul d ((program_of lp).coef r (place free n)) (form row (lp.columns + r)) (slacks r l)))))
+          (λ r l. times_mul d ((program_of lp).coef r (place free n)) (form row (lp.columns + r))
+          (slacks r l)))))
         where
           value_is : form row (value_column (program_of lp))
               ≡ neg_ℤ (sum_to (length lp.rows.items)

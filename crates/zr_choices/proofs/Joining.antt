@@ -14,5 +14,6 @@ pub joined_at : (free : ℕ → Bool) (q : ℕ → ℤ) (j c : ℕ) → c ≡ pl
 joined_at free q j c e =
     ap (λ (k : ℕ). if free j then q k -ℤ q (k + 1) else q k) e
 
-pub place_more : (free : ℕ → Bool) (j : ℕ) → place free (j + 1) ≡ place free j + (if free j then 2 else 1)
+pub place_more : (free : ℕ → Bool) (j : ℕ) → place free (j + 1)
+    ≡ place free j + (if free j then 2 else 1)
 place_more free j = rw add-one refl

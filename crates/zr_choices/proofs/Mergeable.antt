@@ -31,7 +31,8 @@ zero_or (pos (suc k)) = inr (λ e. cc)
 zero_or (negsuc k) = inr (λ e. cc)
 
 module _ (game : GameOf) (leaves : LeavesOf) (path : List Choice) (lp : Lp)
-    (asks : Asks (is_free game leaves) (length (columns game leaves)) (system_rows game leaves path) lp)
+    (asks : Asks (is_free game leaves) (length (columns game leaves))
+    (system_rows game leaves path) lp)
     (form : All (IsIneq (length (columns game leaves))) (system_rows game leaves path))
     (mult extra : Terms) (listed : AreListed lp mult extra) where
   -- the row of an unknown is the one that keeps its column from being below zero
@@ -52,37 +53,73 @@ module _ (game : GameOf) (leaves : LeavesOf) (path : List Choice) (lp : Lp)
         λ k apart. ap (λ (d : DenseRow). d.coef k) is ∙ other below k apart,
       )
     where
-      inside : (row_of game leaves path (place (is_free game leaves) j)) < length (system_rows game leaves path) → (k : ℕ) → k ≢ place (is_free game leaves) j
-          → (i : ℕ) × (i < (length (columns game leaves))) × ((k ≡ place (is_free game leaves) i) ⊎ (((is_free game leaves) i ≡ true) × (k ≡ place (is_free game leaves) i + 1)))
-          → (asked (is_free game leaves) (length (columns game leaves)) (system_rows game leaves path) (row_of game leaves path (place (is_free game leaves) j))).coef k ≡ pos 0
+      inside : (row_of game leaves path (place (is_free game leaves) j)) < length
+          (system_rows game leaves path) → (k : ℕ) → k ≢ place (is_free game leaves) j
+          → (i : ℕ) × (i < (length (columns game leaves)))
+          × ((k ≡ place (is_free game leaves) i) ⊎ (((is_free game leaves) i ≡ true)
+          × (k ≡ place (is_free game leaves) i + 1)))
+          → (asked (is_free game leaves) (length (columns game leaves))
+          (system_rows game leaves path) (row_of game leaves path
+          (place (is_free game leaves) j))).coef k ≡ pos 0
       inside below k apart s =
           ⊎_elim (λ (e : k ≡ place (is_free game leaves) s.0).
-          ap (λ (c : ℕ). (asked (is_free game leaves) (length (columns game leaves)) (system_rows game leaves path) (row_of game leaves path (place (is_free game leaves) j))).coef c) e ∙ first_of (is_free game leaves) (length (columns game leaves)) (system_rows game leaves path) (row_of game leaves path (place (is_free game leaves) j)) below s.0 s.1
+          ap (λ (c : ℕ). (asked (is_free game leaves) (length (columns game leaves))
+          (system_rows game leaves path) (row_of game leaves path
+          (place (is_free game leaves) j))).coef c) e
+          ∙ first_of (is_free game leaves) (length (columns game leaves))
+          (system_rows game leaves path) (row_of game leaves path
+          (place (is_free game leaves) j)) below s.0 s.1
           ∙ sign_other game leaves path j s.0 h s.1 f
           (λ q. apart (e ∙ ap (place (is_free game leaves)) q)))
           (λ (e : ((is_free game leaves) s.0 ≡ true) × (k ≡ place (is_free game leaves) s.0 + 1)).
-          ap (λ (c : ℕ). (asked (is_free game leaves) (length (columns game leaves)) (system_rows game leaves path) (row_of game leaves path (place (is_free game leaves) j))).coef c) e.1
-          ∙ second_of (is_free game leaves) (length (columns game leaves)) (system_rows game leaves path) (row_of game leaves path (place (is_free game leaves) j)) below s.0 s.1 e.0
+          ap (λ (c : ℕ). (asked (is_free game leaves) (length (columns game leaves))
+          (system_rows game leaves path) (row_of game leaves path
+          (place (is_free game leaves) j))).coef c) e.1
+          ∙ second_of (is_free game leaves) (length (columns game leaves))
+          (system_rows game leaves path) (row_of game leaves path
+          (place (is_free game leaves) j)) below s.0 s.1 e.0
           ∙ ap neg_ℤ (sign_other game leaves path j s.0 h s.1 f
           (λ q. let z : true ≡ false = sym e.0 ∙ ap (is_free game leaves) q ∙ f in cc)))
           s.2
 
-      past_all : (row_of game leaves path (place (is_free game leaves) j)) < length (system_rows game leaves path) → (k : ℕ) → place (is_free game leaves) (length (columns game leaves)) + 1 ≤ k
-          → (asked (is_free game leaves) (length (columns game leaves)) (system_rows game leaves path) (row_of game leaves path (place (is_free game leaves) j))).coef k ≡ pos 0
+      past_all : (row_of game leaves path (place (is_free game leaves) j)) < length
+          (system_rows game leaves path) → (k : ℕ)
+          → place (is_free game leaves) (length (columns game leaves)) + 1 ≤ k
+          → (asked (is_free game leaves) (length (columns game leaves))
+          (system_rows game leaves path) (row_of game leaves path
+          (place (is_free game leaves) j))).coef k ≡ pos 0
       past_all below k l =
-          ap (λ (d : DenseRow). d.coef k) (row_before (is_free game leaves) (length (columns game leaves)) (system_rows game leaves path) (row_of game leaves path (place (is_free game leaves) j)) below)
-          ∙ none_from IsNarrow 0 (place (is_free game leaves) (length (columns game leaves)) + 1) (parted (is_free game leaves) (length (columns game leaves)) (get_or (system_rows game leaves path) (row_of game leaves path (place (is_free game leaves) j)) none)).coef k
-          (parted_ineq (is_free game leaves) (length (columns game leaves)) (get_or (system_rows game leaves path) (row_of game leaves path (place (is_free game leaves) j)) none) (form (row_of game leaves path (place (is_free game leaves) j)) none below)).0 l
+          ap (λ (d : DenseRow). d.coef k) (row_before (is_free game leaves)
+          (length (columns game leaves)) (system_rows game leaves path)
+          (row_of game leaves path (place (is_free game leaves) j)) below)
+          ∙ none_from IsNarrow 0 (place (is_free game leaves) (length (columns game leaves)) + 1)
+          (parted (is_free game leaves) (length (columns game leaves))
+          (get_or (system_rows game leaves path) (row_of game leaves path
+          (place (is_free game leaves) j)) none)).coef k
+          (parted_ineq (is_free game leaves) (length (columns game leaves))
+          (get_or (system_rows game leaves path) (row_of game leaves path
+          (place (is_free game leaves) j)) none) (form
+          (row_of game leaves path (place (is_free game leaves) j)) none below)).0 l
 
-      other : (row_of game leaves path (place (is_free game leaves) j)) < length (system_rows game leaves path) → (k : ℕ) → k ≢ place (is_free game leaves) j
-          → (asked (is_free game leaves) (length (columns game leaves)) (system_rows game leaves path) (row_of game leaves path (place (is_free game leaves) j))).coef k ≡ pos 0
+      other : (row_of game leaves path (place (is_free game leaves) j)) < length
+          (system_rows game leaves path) → (k : ℕ) → k ≢ place (is_free game leaves) j
+          → (asked (is_free game leaves) (length (columns game leaves))
+          (system_rows game leaves path) (row_of game leaves path
+          (place (is_free game leaves) j))).coef k ≡ pos 0
       other below k apart =
-          ⊎_elim (λ (l : k < place (is_free game leaves) (length (columns game leaves))). inside below k apart (column_of (is_free game leaves) (length (columns game leaves)) k l))
+          ⊎_elim (λ (l : k < place (is_free game leaves) (length (columns game leaves))). inside
+          below k apart (column_of (is_free game leaves) (length (columns game leaves)) k l))
           (λ (l : place (is_free game leaves) (length (columns game leaves)) ≤ k). ⊎_elim
-          (λ (e : k ≡ place (is_free game leaves) (length (columns game leaves))). ap (λ (c : ℕ). (asked (is_free game leaves) (length (columns game leaves)) (system_rows game leaves path) (row_of game leaves path (place (is_free game leaves) j))).coef c) e
-          ∙ last_of (is_free game leaves) (length (columns game leaves)) (system_rows game leaves path) (row_of game leaves path (place (is_free game leaves) j)) below form
+          (λ (e : k ≡ place (is_free game leaves) (length (columns game leaves))). ap
+          (λ (c : ℕ). (asked (is_free game leaves) (length (columns game leaves))
+          (system_rows game leaves path) (row_of game leaves path
+          (place (is_free game leaves) j))).coef c) e
+          ∙ last_of (is_free game leaves) (length (columns game leaves))
+          (system_rows game leaves path) (row_of game leaves path
+          (place (is_free game leaves) j)) below form
           ∙ ap one_if (sign_weak game leaves path j h f))
-          (λ (e : k ≢ place (is_free game leaves) (length (columns game leaves))). past_all below k (omega (arith, l, e)))
+          (λ (e : k ≢ place (is_free game leaves) (length (columns game leaves))). past_all below
+          k (omega (arith, l, e)))
           (cases_eq k (place (is_free game leaves) (length (columns game leaves)))))
           (below_or k (place (is_free game leaves) (length (columns game leaves))))
 
@@ -118,7 +155,8 @@ module _ (game : GameOf) (leaves : LeavesOf) (path : List Choice) (lp : Lp)
             → (j : ℕ) × (j < length (columns game leaves)) × (is_free game leaves j ≡ false)
             × (c ≡ place (is_free game leaves) j)
         by j true e l which =
-            let z = free_extras game leaves path lp asks form mult extra listed columns_are j l e in
+            let z = free_extras game leaves path lp asks form mult extra listed columns_are j l
+            e in
             absurd (⊎_elim (λ (q : c ≡ place (is_free game leaves) j).
             apart (ap (coef_at extra) q ∙ z.0))
             (λ (q : (is_free game leaves j ≡ true) × (c ≡ place (is_free game leaves) j + 1)).
@@ -139,8 +177,10 @@ module _ (game : GameOf) (leaves : LeavesOf) (path : List Choice) (lp : Lp)
         let f = y.3 in
         let order : x.0 < y.0 = ⊎_elim (λ (h : x.0 < y.0). h)
         (λ (h : y.0 ≤ x.0). absurd (⊎_elim
-        (λ (q : y.0 ≡ x.0). let p = ap (place (is_free game leaves)) q in omega (arith, e, f, p, less))
-        (λ (q : y.0 ≢ x.0). let p = place_below (is_free game leaves) y.0 x.0 (omega (arith, h, q)) in
+        (λ (q : y.0 ≡ x.0). let p = ap (place (is_free game leaves)) q in omega
+        (arith, e, f, p, less))
+        (λ (q : y.0 ≢ x.0). let p = place_below (is_free game leaves) y.0 x.0
+        (omega (arith, h, q)) in
         omega (arith, e, f, p, less)) (cases_eq y.0 x.0))) (below_or x.0 y.0) in
         let r = rows_rise game leaves path x.0 y.0 order y.1 x.2 y.2 in
         let v = ap (row_of game leaves path) e in

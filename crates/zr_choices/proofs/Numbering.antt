@@ -56,7 +56,8 @@ module _ {A : Type 0} (test : A → Bool) where
   none_more n (x ∷ xs) ys none = by (test x) (none_more (suc n) xs ys none)
     where
       by : (b : Bool) → numbers_of test (suc n) (xs ++ ys) ≡ numbers_of test (suc n) xs
-          → (if b then n ∷ numbers_of test (suc n) (xs ++ ys) else numbers_of test (suc n) (xs ++ ys))
+          → (if b then n ∷ numbers_of test (suc n) (xs ++ ys) else numbers_of test (suc n)
+          (xs ++ ys))
           ≡ (if b then n ∷ numbers_of test (suc n) xs else numbers_of test (suc n) xs)
       by true e = ap (λ zs. n ∷ zs) e
       by false e = e
@@ -69,10 +70,14 @@ module _ {A : Type 0} (test : A → Bool) where
     number_at n [] m h = absurd (omega (arith, h))
     number_at n (x ∷ xs) m h = by (test x) refl m h (number_at (suc n) xs)
       where
-        by : (b : Bool) → test x ≡ b → (m : ℕ) → m < length (if b then n ∷ numbers_of test (suc n) xs else numbers_of test (suc n) xs)
-            → ((m : ℕ) → m < length (numbers_of test (suc n) xs) → (i : ℕ) × (i < length xs) × (get_or (numbers_of test (suc n) xs) m 0 ≡ suc n + i)
+        by : (b : Bool) → test x ≡ b → (m : ℕ) → m < length
+            (if b then n ∷ numbers_of test (suc n) xs else numbers_of test (suc n) xs)
+            → ((m : ℕ) → m < length (numbers_of test (suc n) xs) → (i : ℕ) × (i < length xs)
+            × (get_or (numbers_of test (suc n) xs) m 0 ≡ suc n + i)
             × (get_or (passing xs) m d ≡ get_or xs i d) × (test (get_or xs i d) ≡ true))
-            → (i : ℕ) × (i < suc (length xs)) × (get_or (if b then n ∷ numbers_of test (suc n) xs else numbers_of test (suc n) xs) m 0 ≡ n + i)
+            → (i : ℕ) × (i < suc (length xs))
+            × (get_or (if b then n ∷ numbers_of test (suc n) xs else numbers_of test (suc n) xs)
+            m 0 ≡ n + i)
             × (get_or (if b then x ∷ passing xs else passing xs) m d ≡ get_or (x ∷ xs) i d)
             × (test (get_or (x ∷ xs) i d) ≡ true)
         by true e zero h rest = (0, omega arith, omega arith, refl, e)
@@ -93,11 +98,16 @@ module _ {A : Type 0} (test : A → Bool) where
     numbers_rise n (x ∷ xs) m k h b =
         by (test x) m k h b (number_at (suc n) xs) (numbers_rise (suc n) xs)
       where
-        by : (b : Bool) (m k : ℕ) → m < k → k < length (if b then n ∷ numbers_of test (suc n) xs else numbers_of test (suc n) xs)
-            → ((m : ℕ) → m < length (numbers_of test (suc n) xs) → (i : ℕ) × (i < length xs) × (get_or (numbers_of test (suc n) xs) m 0 ≡ suc n + i)
+        by : (b : Bool) (m k : ℕ) → m < k → k < length
+            (if b then n ∷ numbers_of test (suc n) xs else numbers_of test (suc n) xs)
+            → ((m : ℕ) → m < length (numbers_of test (suc n) xs) → (i : ℕ) × (i < length xs)
+            × (get_or (numbers_of test (suc n) xs) m 0 ≡ suc n + i)
             × (get_or (passing xs) m d ≡ get_or xs i d) × (test (get_or xs i d) ≡ true))
-            → ((m k : ℕ) → m < k → k < length (numbers_of test (suc n) xs) → get_or (numbers_of test (suc n) xs) m 0 < get_or (numbers_of test (suc n) xs) k 0)
-            → get_or (if b then n ∷ numbers_of test (suc n) xs else numbers_of test (suc n) xs) m 0 < get_or (if b then n ∷ numbers_of test (suc n) xs else numbers_of test (suc n) xs) k 0
+            → ((m k : ℕ) → m < k → k < length (numbers_of test (suc n) xs)
+            → get_or (numbers_of test (suc n) xs) m 0 < get_or (numbers_of test (suc n) xs) k 0)
+            → get_or (if b then n ∷ numbers_of test (suc n) xs else numbers_of test (suc n) xs) m
+            0 < get_or (if b then n ∷ numbers_of test (suc n) xs else numbers_of test (suc n) xs)
+            k 0
         by true zero zero h l at rise = absurd (omega (arith, h))
         by true zero (suc k) h l at rise =
             let q = (at k (omega (arith, l))).2 in omega (arith, q)
@@ -111,15 +121,21 @@ module _ {A : Type 0} (test : A → Bool) where
     rank_at n [] i h e = absurd (omega (arith, h))
     rank_at n (x ∷ xs) zero h e = by (test x) e
       where
-        by : (b : Bool) → b ≡ true → (0 < length (if b then n ∷ numbers_of test (suc n) xs else numbers_of test (suc n) xs))
-            × (get_or (if b then n ∷ numbers_of test (suc n) xs else numbers_of test (suc n) xs) 0 0 ≡ n + 0)
+        by : (b : Bool) → b ≡ true
+            → (0 < length (if b then n ∷ numbers_of test (suc n) xs else numbers_of test
+            (suc n) xs))
+            × (get_or (if b then n ∷ numbers_of test (suc n) xs else numbers_of test (suc n) xs)
+            0 0 ≡ n + 0)
         by true e = (omega arith, omega arith)
         by false e = absurd cc
     rank_at n (x ∷ xs) (suc i) h e = by (test x) (rank_at (suc n) xs i (omega (arith, h)) e)
       where
-        by : (b : Bool) → (rank xs i < length (numbers_of test (suc n) xs)) × (get_or (numbers_of test (suc n) xs) (rank xs i) 0 ≡ suc n + i)
-            → ((if b then suc (rank xs i) else rank xs i) < length (if b then n ∷ numbers_of test (suc n) xs else numbers_of test (suc n) xs))
-            × (get_or (if b then n ∷ numbers_of test (suc n) xs else numbers_of test (suc n) xs) (if b then suc (rank xs i) else rank xs i) 0
+        by : (b : Bool) → (rank xs i < length (numbers_of test (suc n) xs))
+            × (get_or (numbers_of test (suc n) xs) (rank xs i) 0 ≡ suc n + i)
+            → ((if b then suc (rank xs i) else rank xs i) < length
+            (if b then n ∷ numbers_of test (suc n) xs else numbers_of test (suc n) xs))
+            × (get_or (if b then n ∷ numbers_of test (suc n) xs else numbers_of test (suc n) xs)
+            (if b then suc (rank xs i) else rank xs i) 0
             ≡ n + suc i)
         by true r = let a = r.0 in let q = r.1 in (omega (arith, a), omega (arith, q))
         by false r = let q = r.1 in (r.0, omega (arith, q))

@@ -19,16 +19,19 @@ module _ (rows : List ℕ) (mult extra : Terms) (are : AreRows rows mult extra)
       → coef_at extra k ≢ pos 0
   still k h n e = n (first_coef_at (length rows) extra k h ∙ e)
 
-  pub right_form : AreAtLeastOne 4294967296 (renamed (slice_index rows) (first_terms (length rows) extra))
+  pub right_form : AreAtLeastOne 4294967296
+      (renamed (slice_index rows) (first_terms (length rows) extra))
   right_form =
       renamed_ascends (slice_index rows) (length rows) 4294967296 (λ k h. are.fit k h)
       (first_terms (length rows) extra)
-      (λ k l h b x y. are.rise k l h b (still k (omega (arith, h, b)) x) (still l b y)) first_listed
+      (λ k l h b x y. are.rise k l h b (still k (omega (arith, h, b)) x) (still l b y))
+      first_listed
 
   pub right_apart : (k : ℕ) → coef_at mult k ≢ pos 0
       → coef_at (renamed (slice_index rows) (first_terms (length rows) extra)) k ≡ pos 0
   right_apart k n =
-      ⊎_elim (λ (z : coef_at (renamed (slice_index rows) (first_terms (length rows) extra)) k ≡ pos 0). z)
+      ⊎_elim (λ (z : coef_at (renamed (slice_index rows) (first_terms (length rows) extra)) k
+      ≡ pos 0). z)
       (λ (z : coef_at (renamed (slice_index rows) (first_terms (length rows) extra)) k ≢ pos 0).
       let s = named_at (slice_index rows) (length rows) 4294967296 (λ i h. are.fit i h)
       (first_terms (length rows) extra) k first_listed z in

@@ -130,7 +130,8 @@ module _ (game : GameOf) (leaves : LeavesOf) (path : List Choice) (q : Question)
   last_is : q.lp.columns - 1 ≡ t
   last_is = let w = is.asks.width in omega (arith, w)
 
-  module _ (basis : ℕ → ℕ) (form : ℕ → ℕ → ℤ) (is_form : IsBasicForm (program_of q.lp) basis form) where
+  module _ (basis : ℕ → ℕ) (form : ℕ → ℕ → ℤ)
+      (is_form : IsBasicForm (program_of q.lp) basis form) where
     -- a point with the last column above zero
     pub point_reply : (point x : PointOf) → IsFeasiblePoint q.lp point
         → IsBasicPoint (program_of q.lp) basis form point
@@ -145,7 +146,8 @@ module _ (game : GameOf) (leaves : LeavesOf) (path : List Choice) (q : Question)
         parts = basic.all;
         is_form = subst (λ (p : Program). IsBasicForm p basis form) same is_form;
         solution = subst (λ (p : Program). IsBasicSolution p basis form basic.all x.den) same
-            (subst (IsBasicSolution (program_of q.lp) basis form basic.all) (sym den) basic.solution);
+            (subst (IsBasicSolution (program_of q.lp) basis form basic.all)
+            (sym den) basic.solution);
         len = ap (λ (xs : List ℤ). length xs) own ∙ firsts_count n (joined free (num_of point));
         values = λ j h. number_is j h ∙ from_parts j h;
       };
@@ -159,7 +161,8 @@ module _ (game : GameOf) (leaves : LeavesOf) (path : List Choice) (q : Question)
 
         number_is : (j : ℕ) → j < n → num_of x j ≡ joined free (num_of point) j
         number_is j h =
-            ap (λ (xs : List ℤ). get_or xs j (pos 0)) own ∙ firsts_get n j (joined free (num_of point)) h
+            ap (λ (xs : List ℤ). get_or xs j (pos 0)) own
+            ∙ firsts_get n j (joined free (num_of point)) h
 
         from_parts : (j : ℕ) → j < n → joined free (num_of point) j ≡ joined free basic.all j
         from_parts j h = by (is_free game leaves j) refl
@@ -173,13 +176,15 @@ module _ (game : GameOf) (leaves : LeavesOf) (path : List Choice) (q : Question)
                 → joined free (num_of point) j ≡ joined free basic.all j
             by true e =
                 let p = second_below free j n h e in
-                let s = basic.same (place free j + 1) (let e = is.asks.width in omega (arith, p, e)) in
+                let s = basic.same (place free j + 1) (let e = is.asks.width in omega
+                (arith, p, e)) in
                 let f = first in
                 rw e (omega (arith, ints, f, s))
             by false e = let f = first in rw e f
 
         parted_solves : Solves (parted_rows free n rows) (num_of point) point.den
-        parted_solves = subst (λ (rs : List IneqOf). Solves rs (num_of point) point.den) is.asks.parts feasible.rows
+        parted_solves = subst (λ (rs : List IneqOf). Solves rs (num_of point) point.den)
+            is.asks.parts feasible.rows
 
         joined_solves : Solves rows (joined free (num_of point)) point.den
         joined_solves =
@@ -244,15 +249,19 @@ module _ (game : GameOf) (leaves : LeavesOf) (path : List Choice) (q : Question)
 
     module _ (list : Terms) (are : AreAtLeastOne 4294967296 list)
         (sums : (c : ℕ → ℤ) → value_at list c ≡ value_at mult c
-        +ℤ value_at (first_terms (length q.signs.items) extra) (λ k. c (slice_index q.signs.items k)))
+        +ℤ value_at (first_terms (length q.signs.items) extra)
+        (λ k. c (slice_index q.signs.items k)))
         (end : coef_at mult (length (system_rows game leaves path)) ≡ pos 0) where
       sums_are : (c : ℕ → ℤ) → value_at list c ≡ value_at mult c
-          +ℤ value_at (first_terms (place (is_free game leaves) (length (columns game leaves))) extra)
+          +ℤ value_at (first_terms (place (is_free game leaves) (length (columns game leaves)))
+          extra)
           (λ k. c (row_of game leaves path k))
       sums_are c =
           sums c ∙ ap (λ z. value_at mult c +ℤ z)
-          (ap (λ (k : ℕ). value_at (first_terms k extra) (λ i. c (slice_index q.signs.items i))) signs_count
-          ∙ ap (λ (rs : List ℕ). value_at (first_terms (place (is_free game leaves) (length (columns game leaves))) extra)
+          (ap (λ (k : ℕ). value_at (first_terms k extra) (λ i. c (slice_index q.signs.items i)))
+          signs_count
+          ∙ ap (λ (rs : List ℕ). value_at (first_terms
+          (place (is_free game leaves) (length (columns game leaves))) extra)
           (λ i. c (slice_index rs i))) is.signs)
 
       refuted : Refutes n (row_at rows) list → AreDrawn game leaves path list
@@ -282,10 +291,12 @@ module _ (game : GameOf) (leaves : LeavesOf) (path : List Choice) (q : Question)
           end list are sums_are low) drawn
 
       pub refuted_strict : (weighed q.lp mult).le ≡ pos 0
-          → (pos 0) <ℤ (weighed q.lp mult).coef (place (is_free game leaves) (length (columns game leaves)))
+          → (pos 0) <ℤ (weighed q.lp mult).coef (place (is_free game leaves)
+          (length (columns game leaves)))
           → AreDrawn game leaves path list → IsRefutedBy game leaves path list
       refuted_strict right above drawn =
-          refuted (closes_strict game leaves path q.lp is.asks is.form mult extra listed columns_are
+          refuted (closes_strict game leaves path q.lp is.asks is.form mult extra listed
+          columns_are
           end list are sums_are right above) drawn
 
       module _ (basis : ℕ → ℕ) (form : ℕ → ℕ → ℤ) (row_at_ : ℕ)
@@ -301,9 +312,11 @@ module _ (game : GameOf) (leaves : LeavesOf) (path : List Choice) (q : Question)
             → AreDrawn game leaves path list
         least_drawn e zero_last =
             drawn_least game leaves path q.lp is.asks is.good is.form mult extra listed columns_are
-            end list are sums_are basis form row_at_ is_form (omega (arith, e)) negated of zero_last
+            end list are sums_are basis form row_at_ is_form (omega (arith, e)) negated of
+            zero_last
 
-  module _ (basis : ℕ → ℕ) (form : ℕ → ℕ → ℤ) (is_form : IsBasicForm (program_of q.lp) basis form) where
+  module _ (basis : ℕ → ℕ) (form : ℕ → ℕ → ℤ)
+      (is_form : IsBasicForm (program_of q.lp) basis form) where
     -- no point is feasible
     module _ (mult extra : Terms) (empty : IsEmpty q.lp mult extra) (at : ℕ)
         (empty_at : IsEmptyAt (program_of q.lp) form at)
@@ -319,7 +332,8 @@ module _ (game : GameOf) (leaves : LeavesOf) (path : List Choice) (q : Question)
           let w = is.asks.width in
           let a = of.multipliers (length rows) (omega (arith, k)) in
           let b = of.extras t (omega (arith, w)) in
-          let up = mult_up game leaves path q.lp is.asks is.form mult extra empty.listed (length rows) in
+          let up = mult_up game leaves path q.lp is.asks is.form mult extra empty.listed
+          (length rows) in
           let c = empty.columns t (omega (arith, w)) in
           let v = weighed_column free n rows q.lp is.asks mult t in
           let total = total_last free n rows mult
@@ -332,11 +346,13 @@ module _ (game : GameOf) (leaves : LeavesOf) (path : List Choice) (q : Question)
 
       pub empty_reply : (list : Terms) → AreAtLeastOne 4294967296 list
           → ((c : ℕ → ℤ) → value_at list c ≡ value_at mult c
-          +ℤ value_at (first_terms (length q.signs.items) extra) (λ k. c (slice_index q.signs.items k)))
+          +ℤ value_at (first_terms (length q.signs.items) extra)
+          (λ k. c (slice_index q.signs.items k)))
           → IsRefutedBy game leaves path list
       empty_reply list are sums =
           refuted_low mult extra empty.listed empty_columns list are sums end_is empty.right
-          (empty_drawn mult extra empty.listed empty_columns list are sums end_is basis form at is_form
+          (empty_drawn mult extra empty.listed empty_columns list are sums end_is basis form at
+          is_form
           false of empty_at.0)
 
     -- the last column is 0 at the best
@@ -368,7 +384,8 @@ module _ (game : GameOf) (leaves : LeavesOf) (path : List Choice) (q : Question)
         end_zero =
             let k = lp_count free n rows q.lp is.asks in
             let w = is.asks.width in
-            let z = end_of_least free n rows q.lp is.asks basis form is_form least.1 basic.all point.den
+            let z = end_of_least free n rows q.lp is.asks basis form is_form least.1 basic.all
+            point.den
             basic.solution (sym (basic.same t (omega (arith, w))) ∙ at_zero) in
             let a = of.multipliers (length rows) (omega (arith, k)) in
             a ∙ ap (signed true) z
@@ -388,7 +405,8 @@ module _ (game : GameOf) (leaves : LeavesOf) (path : List Choice) (q : Question)
             let r = best.right in
             omega (arith, ints, w, r)
 
-        above : (pos 0) <ℤ (weighed q.lp mult).coef (place (is_free game leaves) (length (columns game leaves)))
+        above : (pos 0) <ℤ (weighed q.lp mult).coef
+            (place (is_free game leaves) (length (columns game leaves)))
         above =
             let w = is.asks.width in
             let a = best.columns t (omega (arith, w)) in
@@ -399,9 +417,11 @@ module _ (game : GameOf) (leaves : LeavesOf) (path : List Choice) (q : Question)
 
         pub best_reply : (list : Terms) → AreAtLeastOne 4294967296 list
             → ((c : ℕ → ℤ) → value_at list c ≡ value_at mult c
-            +ℤ value_at (first_terms (length q.signs.items) extra) (λ k. c (slice_index q.signs.items k)))
+            +ℤ value_at (first_terms (length q.signs.items) extra)
+            (λ k. c (slice_index q.signs.items k)))
             → IsRefutedBy game leaves path list
         best_reply list are sums =
-            refuted_strict mult extra best.listed best_columns list are sums end_zero right_zero above
+            refuted_strict mult extra best.listed best_columns list are sums end_zero right_zero
+            above
             (least_drawn mult extra best.listed best_columns list are sums end_zero basis form
             (length q.lp.rows.items) is_form true of refl last_zero)

@@ -101,7 +101,8 @@ module _ (game : GameOf) (leaves : LeavesOf) where
       (ap (λ us. Weight i k ∷ us) (exact_rows i k (is_exact leaves i k)))
       ∙ sym (ups_join (shares game i k) (Weight i k ∷
       (if is_exact leaves i k then duals game leaves i k else []))
-      ∙ ap (λ us. us ++ (Weight i k ∷ ups (if is_exact leaves i k then duals game leaves i k else [])))
+      ∙ ap (λ us. us ++ (Weight i k ∷ ups (if is_exact leaves i k then duals game leaves i k
+      else [])))
       (no_ups (var_count game i) (λ v. Share i k v ∷ []) (λ v. refl)))
 
   player_rows : (i : ℕ) → kept (player_lines game leaves i) ≡ ups (player_unknowns game leaves i)

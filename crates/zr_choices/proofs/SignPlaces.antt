@@ -131,7 +131,8 @@ module _ (game : GameOf) (leaves : LeavesOf) (path : List Choice) where
       let i = item_at is_sign no_line 0 ls m m_below in
       let k = item_at is_up One 0 us m less in
       let own : k.0 ≡ j = (let p = k.2 in let q = r.1 in omega (arith, p, q)) in
-      let here : row_of (place (is_free game leaves) j) ≡ i.0 = at_place j h f ∙ (let q = i.2 in omega (arith, q)) in
+      let here : row_of (place (is_free game leaves) j) ≡ i.0 = at_place j h f
+      ∙ (let q = i.2 in omega (arith, q)) in
       let name : sign_unknown (get_or ls i.0 no_line) ≡ get_or us j One =
       ap sign_unknown (sym i.3) ∙ names m m_below ∙ k.3 ∙ ap (λ (x : ℕ). get_or us x One) own in
       let below = i.1 in (
@@ -158,7 +159,8 @@ module _ (game : GameOf) (leaves : LeavesOf) (path : List Choice) where
       ∙ ap sign_unknown (sym i.3) ∙ names m less ∙ k.3 in
       let own : j ≡ k.0 = columns_apart game leaves j k.0 q k.1 name in
       let at : get_or (numbers_of is_up 0 us) m 0 ≡ j = (let x = k.2 in omega (arith, x, own)) in
-      let rank_is = rank_of is_up One us j m q (up_of (get_or us j One) f) (omega (arith, less, c)) at in
+      let rank_is = rank_of is_up One us j m q (up_of (get_or us j One) f)
+      (omega (arith, less, c)) at in
       at_place j q f ∙ ap (λ (x : ℕ). get_or signs x 0) rank_is
       ∙ (let x = a.1 in omega (arith, x))
 
@@ -171,7 +173,8 @@ module _ (game : GameOf) (leaves : LeavesOf) (path : List Choice) where
       let r = rank_rises is_up One us j k h q up high in
       let l = (rank_at is_up One 0 us k q high).0 in
       let c = count in
-      let t = numbers_rise is_sign no_line 0 ls (rank is_up us j) (rank is_up us k) r (omega (arith, l, c)) in
+      let t = numbers_rise is_sign no_line 0 ls (rank is_up us j) (rank is_up us k) r
+      (omega (arith, l, c)) in
       let a = at_place j (omega (arith, h, q)) f in
       let b = at_place k q g in
       omega (arith, t, a, b)
@@ -180,13 +183,15 @@ module _ (game : GameOf) (leaves : LeavesOf) (path : List Choice) where
   pub keeps : (r j : ℕ) → r < length ls → j < length us → is_free game leaves j ≡ false
       → (row_of (place (is_free game leaves) j) == r)
       ≡ keeps_up (get_or ls r no_line) (get_or us j One)
-  keeps r j h q f = by (is_sign (get_or ls r no_line)) refl ∙ sym (keeps_up_is (get_or ls r no_line) (get_or us j One))
+  keeps r j h q f = by (is_sign (get_or ls r no_line)) refl
+      ∙ sym (keeps_up_is (get_or ls r no_line) (get_or us j One))
     where
       inner : (b : Bool) → is_sign (get_or ls r no_line) ≡ true
           → is_same (sign_unknown (get_or ls r no_line)) (get_or us j One) ≡ b
           → (row_of (place (is_free game leaves) j) == r) ≡ b
       inner true s e =
-          let x = row_is r j h q f s (same_is (sign_unknown (get_or ls r no_line)) (get_or us j One) e) in
+          let x = row_is r j h q f s (same_is (sign_unknown (get_or ls r no_line))
+          (get_or us j One) e) in
           rw x (itself r)
       inner false s e =
           unequal (row_of (place (is_free game leaves) j)) r
@@ -212,11 +217,13 @@ module _ (game : GameOf) (leaves : LeavesOf) (path : List Choice) where
   keeps_none r j f = by (keeps_up (get_or ls r no_line) (get_or us j One)) refl
     where
       split : (a : Bool) → is_sign (get_or ls r no_line) ≡ a
-          → (if a then is_same (sign_unknown (get_or ls r no_line)) (get_or us j One) else false) ≡ true
+          → (if a then is_same (sign_unknown (get_or ls r no_line)) (get_or us j One) else false)
+          ≡ true
           → ⊥
       split true s e =
           let n = same_is (sign_unknown (get_or ls r no_line)) (get_or us j One) e in
-          let z : false ≡ true = sym (sign_up (get_or ls r no_line) s) ∙ ap may_be_negative n ∙ f in
+          let z : false ≡ true = sym (sign_up (get_or ls r no_line) s) ∙ ap may_be_negative n
+          ∙ f in
           cc
       split false s e = cc
 
@@ -231,7 +238,8 @@ module _ (game : GameOf) (leaves : LeavesOf) (path : List Choice) where
       → row_at (system_rows game leaves path) r
       ≡ dense (ineq_over us (row_of_line game leaves (get_or ls r no_line)))
   row_is_over r h =
-      ap dense (get_or-map (λ line. ineq_over us (row_of_line game leaves line)) ls r no_line none h)
+      ap dense (get_or-map (λ line. ineq_over us (row_of_line game leaves line)) ls r no_line
+      none h)
 
   sign_dense : (j : ℕ) → j < length us → is_free game leaves j ≡ false
       → row_at (system_rows game leaves path) (row_of (place (is_free game leaves) j))

@@ -27,9 +27,11 @@ spread_at (u ∷ us) rows (suc j) h f =
     ∙ by (may_be_negative u) (λ rs. spread_at us rs j (omega (arith, h)) f)
   where
     by : (b : Bool)
-        → ((rs : List ℕ) → get_or (spread us rs) (place (free_in us) j) 0 ≡ get_or rs (rank is_up us j) 0)
+        → ((rs : List ℕ) → get_or (spread us rs) (place (free_in us) j) 0
+        ≡ get_or rs (rank is_up us j) 0)
         → get_or (if b then 0 ∷ 0 ∷ spread us rows
-        else get_or rows 0 0 ∷ spread us (drop 1 rows)) ((if b then 2 else 1) + place (free_in us) j) 0
+        else get_or rows 0 0 ∷ spread us (drop 1 rows))
+        ((if b then 2 else 1) + place (free_in us) j) 0
         ≡ get_or rows (if (if b then false else true) then suc (rank is_up us j)
         else rank is_up us j) 0
     by true rest =
@@ -70,7 +72,8 @@ spread_small m (u ∷ us) rows k some small =
     by true (suc (suc k)) rest = rest rows k small
     by false zero rest = small 0
     by false (suc k) rest =
-        rest (drop 1 rows) k (λ i. let e = get_or_rest rows i in let s = small (suc i) in omega (arith, e, s))
+        rest (drop 1 rows) k (λ i. let e = get_or_rest rows i in let s = small (suc i) in omega
+        (arith, e, s))
 
 rest_of : (rows : List ℕ) (m : ℕ)
     → (get_or (drop m rows) 0 0 ≡ get_or rows m 0) × (drop 1 (drop m rows) ≡ drop (suc m) rows)
@@ -120,7 +123,8 @@ module _ (us : List Unknown) (rows : List ℕ) (i m : ℕ) (h : i < length us) w
       sym (count_same is_up 0 (drop i us))
       ∙ ap (λ (ws : List Unknown). length (passing is_up ws)) (drop-cons us i One h)
 
-  count_rest : length (numbers_of is_up 0 (drop (i + 1) us)) ≡ length (passing is_up (drop (suc i) us))
+  count_rest : length (numbers_of is_up 0 (drop (i + 1) us))
+      ≡ length (passing is_up (drop (suc i) us))
   count_rest =
       let a : i + 1 ≡ suc i = omega arith in
       ap (λ (k : ℕ). length (numbers_of is_up 0 (drop k us))) a

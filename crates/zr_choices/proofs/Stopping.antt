@@ -16,7 +16,8 @@ use Rattle.zr_choices.specs.Replies.{IsChoicesCause, IsStuckChoices}
 
 pub stuck_choices : (game : GameOf) (leaves : LeavesOf) (path : List Choice) (stuck : Stuck)
     (old new : Purse) → IsStuck (choices_program game leaves path) stuck
-    → IsStuckAfter (choices_program game leaves path) (IsFromSlacks (choices_program game leaves path))
+    → IsStuckAfter (choices_program game leaves path)
+    (IsFromSlacks (choices_program game leaves path))
     old new (λ i. slice_index stuck.basis.items i) stuck.step stuck.wide
     → IsStuckChoices game leaves path stuck
 stuck_choices game leaves path stuck old new is after = record {

@@ -7,7 +7,8 @@ abbrev pub first_terms : ℕ → Terms → Terms
 first_terms n [] = []
 first_terms n (t ∷ ts) = if nat_lt t.0 n then t ∷ first_terms n ts else first_terms n ts
 
--- the rows of columns are numbers below 2^32; those of listed extras ascend, and none of them has a
+-- the rows of columns are numbers below 2^32; those of listed extras ascend, and none of them has
+-- a
 -- multiplier
 pub record AreRows (rows : List ℕ) (mult extra : Terms) : Type 0 where
   pub fit : (k : ℕ) → k < length rows → slice_index rows k < 4294967296

@@ -13,8 +13,8 @@ fn push_renamed(
     k: u32,
     by: i128,
 ) -> Result<(), AllocError>
-    ensures { OnOk result (list.new.items ≡ list.old.items
-        ++ merged.renamed (slice_index names.now) (first_terms (length names.now) ((k, by) ∷ []))) }
+    ensures { OnOk result (list.new.items ≡ list.old.items ++ merged.renamed
+        (slice_index names.now) (first_terms (length names.now) ((k, by) ∷ []))) }
 {
     let k = k as usize;
     if k < names.len() {

@@ -31,4 +31,5 @@ returns-clause-cause c =
     choices_cause game leaves path stuck c.stuck_at.result c.stuck_at.ensures
     (stuck_choices game leaves path stuck old new
     (subst (λ (p : Program). IsStuck p stuck) same cause.0)
-    (subst (λ (p : Program). IsStuckAfter p (IsFromSlacks p) old new (λ i. slice_index stuck.basis.items i) stuck.step stuck.wide) same cause.1))
+    (subst (λ (p : Program). IsStuckAfter p (IsFromSlacks p) old new
+    (λ i. slice_index stuck.basis.items i) stuck.step stuck.wide) same cause.1))

@@ -34,7 +34,8 @@ by_row-requires-clause-mult c =
     let b = c.requires.basic in
     let best = rw c.in-Best.is at c.requires.answer in
     let basic = rw c.in-Best.is at b.3 in
-    rw c.deref-in-Best-2.ensures.value (mult_listed a.0 a.1 a.2 c.args.q.now a.3 c.in-Best.mult.items
+    rw c.deref-in-Best-2.ensures.value (mult_listed a.0 a.1 a.2 c.args.q.now a.3
+    c.in-Best.mult.items
     c.in-Best.extra.items best.listed (best_columns a.0 a.1 a.2 c.args.q.now a.3 b.0 b.1 b.2
     c.in-Best.point c.in-Best.scale c.in-Best.value c.in-Best.mult.items c.in-Best.extra.items best
     basic.0 basic.1 basic.4))
@@ -46,7 +47,8 @@ by_row-requires-clause-extra c =
     let best = rw c.in-Best.is at c.requires.answer in
     let basic = rw c.in-Best.is at b.3 in
     rw (c.deref-in-Best.ensures.value, c.deref-in-Best-3.ensures.value)
-    (extra_listed a.0 a.1 a.2 c.args.q.now a.3 c.in-Best.mult.items c.in-Best.extra.items best.listed
+    (extra_listed a.0 a.1 a.2 c.args.q.now a.3 c.in-Best.mult.items c.in-Best.extra.items
+    best.listed
     (best_columns a.0 a.1 a.2 c.args.q.now a.3 b.0 b.1 b.2 c.in-Best.point c.in-Best.scale
     c.in-Best.value c.in-Best.mult.items c.in-Best.extra.items best basic.0 basic.1 basic.4))
 
@@ -67,7 +69,11 @@ by_row-requires-clause-rows c =
     let b = c.requires.basic in
     let best = rw c.in-Best.is at c.requires.answer in
     let basic = rw c.in-Best.is at b.3 in
-    rw (c.deref-in-Best.ensures.value, c.deref-in-Best-2.ensures.value, c.deref-in-Best-3.ensures.value)
+    rw (
+      c.deref-in-Best.ensures.value,
+      c.deref-in-Best-2.ensures.value,
+      c.deref-in-Best-3.ensures.value,
+    )
     (signs_are a.0 a.1 a.2 c.args.q.now a.3 c.in-Best.mult.items c.in-Best.extra.items best.listed
     (best_columns a.0 a.1 a.2 c.args.q.now a.3 b.0 b.1 b.2 c.in-Best.point c.in-Best.scale
     c.in-Best.value c.in-Best.mult.items c.in-Best.extra.items best basic.0 basic.1 basic.4))
@@ -78,7 +84,8 @@ by_row-requires-in-Empty-clause-mult c =
     let b = c.requires.basic in
     let empty = rw c.in-Empty.is at c.requires.answer in
     let basic = rw c.in-Empty.is at b.3 in
-    rw c.deref-in-Empty-2.ensures.value (mult_listed a.0 a.1 a.2 c.args.q.now a.3 c.in-Empty.mult.items
+    rw c.deref-in-Empty-2.ensures.value (mult_listed a.0 a.1 a.2 c.args.q.now a.3
+    c.in-Empty.mult.items
     c.in-Empty.extra.items empty.listed (empty_columns a.0 a.1 a.2 c.args.q.now a.3 b.0 b.1 b.2
     c.in-Empty.mult.items c.in-Empty.extra.items empty basic.0 basic.1 basic.2))
 
@@ -89,7 +96,8 @@ by_row-requires-in-Empty-clause-extra c =
     let empty = rw c.in-Empty.is at c.requires.answer in
     let basic = rw c.in-Empty.is at b.3 in
     rw (c.deref-in-Empty.ensures.value, c.deref-in-Empty-3.ensures.value)
-    (extra_listed a.0 a.1 a.2 c.args.q.now a.3 c.in-Empty.mult.items c.in-Empty.extra.items empty.listed
+    (extra_listed a.0 a.1 a.2 c.args.q.now a.3 c.in-Empty.mult.items c.in-Empty.extra.items
+    empty.listed
     (empty_columns a.0 a.1 a.2 c.args.q.now a.3 b.0 b.1 b.2 c.in-Empty.mult.items
     c.in-Empty.extra.items empty basic.0 basic.1 basic.2))
 
@@ -109,8 +117,13 @@ by_row-requires-in-Empty-clause-rows c =
     let b = c.requires.basic in
     let empty = rw c.in-Empty.is at c.requires.answer in
     let basic = rw c.in-Empty.is at b.3 in
-    rw (c.deref-in-Empty.ensures.value, c.deref-in-Empty-2.ensures.value, c.deref-in-Empty-3.ensures.value)
-    (signs_are a.0 a.1 a.2 c.args.q.now a.3 c.in-Empty.mult.items c.in-Empty.extra.items empty.listed
+    rw (
+      c.deref-in-Empty.ensures.value,
+      c.deref-in-Empty-2.ensures.value,
+      c.deref-in-Empty-3.ensures.value,
+    )
+    (signs_are a.0 a.1 a.2 c.args.q.now a.3 c.in-Empty.mult.items c.in-Empty.extra.items
+    empty.listed
     (empty_columns a.0 a.1 a.2 c.args.q.now a.3 b.0 b.1 b.2 c.in-Empty.mult.items
     c.in-Empty.extra.items empty basic.0 basic.1 basic.2))
 
@@ -129,17 +142,26 @@ returns-in_ok-mult-in-Best c game leaves path is =
     let f : FitsSigned w128 c.num.result = search rules in
     let e : int_lt (pos 0) c.num.result ≡ false = simp to_z-of_z at c.if-num-gt0.false in
     let v = c.num.ensures.value in
-    let sums = rw (c.deref-in-Best.ensures.value, c.deref-in-Best-2.ensures.value, c.deref-in-Best-3.ensures.value) at c.in_ok-mult-in-Best.ensures.sums in
+    let sums = rw (
+      c.deref-in-Best.ensures.value,
+      c.deref-in-Best-2.ensures.value,
+      c.deref-in-Best-3.ensures.value,
+    ) at c.in_ok-mult-in-Best.ensures.sums in
     best_reply game leaves path c.args.q.now is b.0 b.1 b.2 c.in-Best.point c.in-Best.scale
     c.in-Best.value c.in-Best.mult.items c.in-Best.extra.items best basic.0 basic.1 basic.4
-    (omega (arith, ints, e, v)) c.in_ok-mult-in-Best.mult.items c.in_ok-mult-in-Best.ensures.form sums
+    (omega (arith, ints, e, v)) c.in_ok-mult-in-Best.mult.items c.in_ok-mult-in-Best.ensures.form
+    sums
 
 pub returns-in_ok-mult-in-Empty : goal.returns-in_ok-mult-in-Empty
 returns-in_ok-mult-in-Empty c game leaves path is =
     let b = c.requires.basic in
     let empty = rw c.in-Empty.is at c.requires.answer in
     let basic = rw c.in-Empty.is at b.3 in
-    let sums = rw (c.deref-in-Empty.ensures.value, c.deref-in-Empty-2.ensures.value, c.deref-in-Empty-3.ensures.value) at c.in_ok-mult-in-Empty.ensures.sums in
+    let sums = rw (
+      c.deref-in-Empty.ensures.value,
+      c.deref-in-Empty-2.ensures.value,
+      c.deref-in-Empty-3.ensures.value,
+    ) at c.in_ok-mult-in-Empty.ensures.sums in
     empty_reply game leaves path c.args.q.now is b.0 b.1 b.2 c.in-Empty.mult.items
     c.in-Empty.extra.items empty basic.0 basic.1 basic.2 c.in_ok-mult-in-Empty.mult.items
     c.in_ok-mult-in-Empty.ensures.form sums

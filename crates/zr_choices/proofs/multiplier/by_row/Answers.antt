@@ -14,9 +14,11 @@ merged-requires-clause-right c =
 pub merged-requires-clause-apart : goal.merged-requires-clause-apart
 merged-requires-clause-apart c =
     rw (c.deref.ensures.value, c.in_ok-extras.ensures)
-    (right_apart c.args.signs.now c.args.mult.now c.args.extra.now c.requires.rows c.requires.extra)
+    (right_apart c.args.signs.now c.args.mult.now c.args.extra.now c.requires.rows
+    c.requires.extra)
 
-if_ok : {T E : Type 0} (P Q : T → Type 0) (r : Result T E) → ((x : T) → P x → Q x) → IfOk r P → IfOk r Q
+if_ok : {T E : Type 0} (P Q : T → Type 0) (r : Result T E) → ((x : T) → P x → Q x) → IfOk r P
+    → IfOk r Q
 if_ok P Q (Ok x) f p = f x p
 if_ok P Q (Err e) f p = tt
 

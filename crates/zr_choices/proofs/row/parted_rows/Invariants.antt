@@ -6,4 +6,5 @@ use Rattle.zr_choices.proofs.row.parted_rows.Given as goal
 
 abbrev pub invariant-loop-row : goal.invariant-loop-row
 invariant-loop-row l =
-    map ineq_of l.list.items ≡ map (parted (free_in l.order) (length l.order)) (map ineq_of (take l.row-index l.rows))
+    map ineq_of l.list.items ≡ map (parted (free_in l.order) (length l.order))
+    (map ineq_of (take l.row-index l.rows))

@@ -19,16 +19,19 @@ loop-u-preserved c =
           let items = ap (λ (v : Vec ℕ Global). v.items) w.list-is ∙ w.in_ok-push-2.ensures.items
           ∙ ap (λ (zs : List ℕ). zs ++ (0 ∷ [])) w.in_ok-push.ensures.items in
           record {
-            list = ap₂ (λ (zs : List ℕ) (k : ℕ). zs ++ spread (drop (i + 1) us) (drop k rows)) items w.next-is
+            list = ap₂ (λ (zs : List ℕ) (k : ℕ). zs ++ spread (drop (i + 1) us) (drop k rows))
+                items w.next-is
                 ∙ spread_free us rows i m below xs (spread us rows) f inv.list;
             count = ap (λ (k : ℕ). k + length (numbers_of is_up 0 (drop (i + 1) us))) w.next-is
                 ∙ count_free us rows i m below (length rows) f inv.count;
           }
       | else-may_be_negative+in_ok-push-3 w ↦
           let f = sym c.may_be_negative.ensures ∙ w.if-may_be_negative.false in
-          let items = ap (λ (v : Vec ℕ Global). v.items) w.list-is ∙ w.in_ok-push-3.ensures.items in
+          let items = ap (λ (v : Vec ℕ Global). v.items) w.list-is
+          ∙ w.in_ok-push-3.ensures.items in
           record {
-            list = ap₂ (λ (zs : List ℕ) (k : ℕ). zs ++ spread (drop (i + 1) us) (drop k rows)) items w.next-is
+            list = ap₂ (λ (zs : List ℕ) (k : ℕ). zs ++ spread (drop (i + 1) us) (drop k rows))
+                items w.next-is
                 ∙ spread_up us rows i m below xs (spread us rows) f inv.list;
             count = ap (λ (k : ℕ). k + length (numbers_of is_up 0 (drop (i + 1) us))) w.next-is
                 ∙ count_up us rows i m below (length rows) f inv.count;

@@ -52,8 +52,10 @@ returns c =
           → All (λ region. IsLeafOf player region.leaf) list.items) regions c.args.points e
           (c.requires.leaves player) i list s is;
       item = λ i player is list s. placed (λ i (list : Vec Named). All
-          (λ item. IsNamedForm (length player.vars) (named_of item)) list.items) named c.new.result f
-          (all_none (λ item. IsNamedForm (length player.vars) (named_of item)) c.new.result.items n)
+          (λ item. IsNamedForm (length player.vars) (named_of item)) list.items) named
+          c.new.result f
+          (all_none (λ item. IsNamedForm (length player.vars) (named_of item)) c.new.result.items
+          n)
           i list s;
       cut = λ i player is list s. placed (λ i (list : Vec Cut). All
           (IsCutForm (length player.vars)) list.items) cuts c.new-2.result g

@@ -33,8 +33,10 @@ loop-u-preserved c =
     let two = c.width.ensures.few in
     record {
       values = firsts_more j (joined free q) v c.loop-u.values.items c.push.new.self.items
-          c.loop-u.invariant.values items (c.value_of.ensures.value ∙ joined_at free q j c.loop-u.c columns);
+          c.loop-u.invariant.values items (c.value_of.ensures.value
+          ∙ joined_at free q j c.loop-u.c columns);
       columns = omega (arith, columns, w, p);
       few = omega (arith, few, two);
-      narrow = rw items (All-push IsNarrow c.loop-u.values.items v c.loop-u.invariant.narrow c.value_of.ensures.narrow);
+      narrow = rw items (All-push IsNarrow c.loop-u.values.items v c.loop-u.invariant.narrow
+          c.value_of.ensures.narrow);
     }
