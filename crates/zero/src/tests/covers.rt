@@ -145,7 +145,13 @@ fn covers_leave_no_equilibrium(rt: HostRuntime) -> Result<(), Fail> {
             "onoff 0 0\nclose 1 4 1\nclose 1 4 1",
             "accepted mixed none\n",
         ),
-        (HULLS, HULLS_CERT, 2, "kind mixed 2", "accepted mixed none\n"),
+        (
+            HULLS,
+            HULLS_CERT,
+            2,
+            "kind mixed 2",
+            "accepted mixed none\n",
+        ),
         (HULLS, HULLS_CERT, 2, "kind pure 2", "accepted pure none\n"),
         (
             HULLS,

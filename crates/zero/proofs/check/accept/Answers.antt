@@ -1,4 +1,4 @@
-use Rattle.std.proofs.Common.{rules, ◌≡◌, IsOk, sym, subst}
+use Rattle.std.proofs.Common.{rules, arith, ◌≡◌, IsOk, sym, subst}
 use Rattle.zr_game.specs.Games.{game_of}
 use Rattle.zr_game.specs.Players.{GameOf}
 use Rattle.zr_cert.specs.Listed.{cert_of}
@@ -7,8 +7,10 @@ use Rattle.zr_check.specs.Truth.{IsTrueVerdict}
 use Rattle.zr_check.specs.WideSteps.{HasWideStep}
 use Rattle.zr_read.specs.Texts.{source_of}
 use Rattle.zero.specs.Answers.{IsAccepted, accepted_text}
-use Rattle.zero.specs.Refusals.{IsCause}
+use Rattle.zero.specs.Refusals.{ComesOf, IsCause}
 use Rattle.zero.specs.declared.refusal.Refusal.TheVariants.{NoMemory}
+use Rattle.zero.specs.declared.text.Text.{Text}
+use Rattle.zero.specs.declared.text.Text.TheVariants.{Cert}
 use Rattle.zero.proofs.CauseLemmas.{if_err, if_ok}
 use Rattle.zero.proofs.TruthLemmas.{true_of}
 use Rattle.zero.proofs.check.accept.Goals as goal
@@ -39,3 +41,16 @@ returns-in_err-cert-clause-err c = λ words contents asked.
 pub returns-in-Ok-check_cert-clause-err : goal.returns-in-Ok-check_cert-clause-err
 returns-in-Ok-check_cert-clause-err c = λ words contents asked.
     if_err c.accepted.result (λ refusal. refusal ≡ NoMemory) (IsCause words contents) (λ refusal e. subst (IsCause words contents) (sym e) tt) c.accepted.ensures.err
+
+-- want of memory comes whatever text was taken
+no_memory : (text : Text) → ComesOf text NoMemory
+no_memory text = record {
+  taken = λ before after last. tt;
+  read = λ e. let three : 11 ≡ 3 = e in absurd (omega (arith, three));
+  unwritten = λ e. let twelve : 11 ≡ 12 = e in absurd (omega (arith, twelve));
+}
+
+pub returns-in-Ok-check_cert-clause-comes : goal.returns-in-Ok-check_cert-clause-comes
+returns-in-Ok-check_cert-clause-comes c =
+    if_err c.accepted.result (λ refusal. refusal ≡ NoMemory) (ComesOf Cert)
+    (λ refusal e. subst (ComesOf Cert) (sym e) (no_memory Cert)) c.accepted.ensures.err
