@@ -23,8 +23,8 @@ use zr_game::{Game, Player};
 use zr_io::{Purse, Unit};
 use zr_tree::{Node, Tree};
 
-/// The exact cover of player `i`, which is below the number of players: a tree whose ends are the
-/// settled leaves that have a point, each with one of its points, and leaves that have none, with
+/// An exact cover of the points of player `i`, which is below the number of players: a tree each of
+/// whose ends is a settled leaf with a point that is known, or a leaf that has none, with
 /// multipliers that show it.
 ///
 /// By branching (A. H. Land and A. G. Doig, 1960). The purse pays each split, and its limit is at

@@ -1,4 +1,4 @@
-//! Exact covers: all settled leaves of a player that have a point, found by branching.
+//! Exact covers of a player's points: each end is a settled leaf with a point, or has no point.
 #![tactic(auto)]
 
 mod cover;
