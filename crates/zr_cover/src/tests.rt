@@ -50,8 +50,8 @@ fn one_player(
 fn cover(alloc: Global, game: &Game, purse: &mut Purse) -> Result<Result<Tree, CoverStop>, Fail>
     requires limit { purse.old.limit ≤ 1000000000 }
 {
-    if game.players.is_empty() {
-        return Err(Fail::from("no player"));
+    if game.players.len() != 1 {
+        return Err(Fail::from("another number of players"));
     }
     Ok(exact_cover(alloc, game, 0, purse))
 }
