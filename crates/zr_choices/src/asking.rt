@@ -142,7 +142,8 @@ fn stuck_at(alloc: Global, path: &[Choice], stuck: Stuck) -> ChoiceStop
 /// The linear program asked has a column for each unknown that can't be below zero, two for each
 /// other one, and a last one, which each strict row is kept by and which is at most 1 and to be
 /// raised. Where it can be raised above zero its basic solution solves the system; else its
-/// multipliers refute it. The purse counts the pivots. The unknowns are fewer than 16,777,217.
+/// multipliers refute it, by the alternative of T. Motzkin (1936). The purse counts the pivots. The
+/// unknowns are fewer than 16,777,217, and the choices of the path exist.
 ///
 /// # Errors
 ///
