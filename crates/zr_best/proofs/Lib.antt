@@ -1,0 +1,14 @@
+mod Divides
+mod Along
+mod Claims
+mod Falls
+mod Leasts
+mod Quotients
+mod Asking
+mod ClaimSteps
+mod MeansLists
+mod Working
+mod Answering
+mod Stopping
+mod MeansSteps
+mod AimSteps

@@ -1,0 +1,6 @@
+pub mod Best
+pub mod Aims
+pub mod Works
+pub mod Causes
+pub mod Halts
+pub mod Tellings
