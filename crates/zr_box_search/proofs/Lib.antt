@@ -1,0 +1,9 @@
+pub mod Growing
+pub mod Bounding
+pub mod Single
+pub mod Replies
+pub mod Units
+pub mod PathLists
+pub mod Ends
+pub mod Spending
+pub mod Fating

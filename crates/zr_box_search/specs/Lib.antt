@@ -1,0 +1,9 @@
+pub mod Whole
+pub mod OpenBoxes
+pub mod Drawn
+pub mod Answers
+pub mod Causes
+pub mod Dues
+pub mod Sizes
+pub mod Sides
+pub mod Fates
