@@ -147,3 +147,49 @@ fn two_splits_are_too_few(rt: HostRuntime) -> Result<(), Fail> {
     assert_eq!(rt; (answer.as_str(), units), ("spent", 2));
     Ok(())
 }
+
+/// A player of two variables that are 0 or 1, with one row.
+fn knapsack_player(
+    alloc: Global,
+    name: &str,
+    bound: Row,
+    cost: &[(u32, i64)],
+    other: u32,
+    shared: (i64, i64),
+) -> Result<Player, Fail> {
+    player(
+        alloc,
+        name,
+        vec![in alloc; variable(alloc, 0, 1)?, variable(alloc, 0, 1)?]?,
+        vec![in alloc; bound]?,
+        cost,
+        vec![in alloc; term(0, other, shared.0), term(1, other, shared.1)]?,
+    )
+}
+
+#[test]
+fn a_knapsack_game_has_a_pure_equilibrium(rt: HostRuntime) -> Result<(), Fail> {
+    let alloc = rt.alloc();
+    let bound = row(alloc, &[(0, 3), (1, 4)], 5)?;
+    let first = knapsack_player(alloc, "A", bound, &[(0, -1), (1, -2)], 1, (2, 3))?;
+    let bound = row(alloc, &[(0, 2), (1, 5)], 5)?;
+    let second = knapsack_player(alloc, "B", bound, &[(0, -3), (1, -5)], 0, (5, 4))?;
+    let (answer, _) = found(alloc, &game(alloc, first, second)?, 1000)?;
+    assert_eq!(rt; answer.as_str(), "unsettled");
+    Ok(())
+}
+
+/// Pennies over -1 and 0: the first player pays `2x + 4xy`, the second one `-2y - 4xy`.
+#[test]
+fn pennies_below_zero_have_none(rt: HostRuntime) -> Result<(), Fail> {
+    let alloc = rt.alloc();
+    let first = one_variable(alloc, "A", -1, 0, &[(0, 2)], term(0, 1, 4))?;
+    let second = one_variable(alloc, "B", -1, 0, &[(0, -2)], term(0, 0, -4))?;
+    let (tree, units) = found(alloc, &game(alloc, first, second)?, 1000)?;
+    assert_eq!(rt;
+        tree.as_str(),
+        "split 0 0 -1;split 1 0 -1;deviate 0 1 0;deviate 1 1 -1;split 1 0 -1;deviate 1 1 0;deviate 0 1 -1;"
+    );
+    assert_eq!(rt; units, 3);
+    Ok(())
+}
