@@ -16,19 +16,24 @@ ghost use Rattle.zr_system.specs.Regions.{LeavesOf};
 ghost use Rattle.zr_system.specs.Unions.{IsMixture, IsSumOfShares};
 ghost use Rattle.zr_tree.specs.Trees.{TreeOf};
 ghost use Rattle.zr_cases.specs.Trees.{CasesOf};
-ghost use Rattle.zr_refute.specs.Covered.{ShowsNone};
+ghost use Rattle.zr_refute.specs.Covered.{AreRightCovers, ShowsNone, covered};
 ghost use Rattle.zr_refute.specs.Refuting.{RefutesUnder};
 
 /// Every equilibrium of a kind gives fractions that solve the system under some complete list of
-/// choices of this kind, whatever the covers are, and whatever points and rays are named.
+/// choices of this kind, whatever the covers are, and whatever feasible points, and rays at such, are
+/// named.
 ///
 /// A point that lies in several leaves is counted to one of them. The multipliers of exact leaves
 /// are those of J. Farkas (1902). That the mean of points of several leaves is a sum of shares is
 /// E. Balas's description of a union of polyhedra (1979).
 pub fn law_of_solutions()
-    ensures { (game : GameOf) → IsGame game → (leaves : LeavesOf) → AreCovers game leaves
+    ensures leaves { (game : GameOf) → IsGame game → (leaves : LeavesOf) → AreCovers game leaves
         → (kind : AKind) (profile : Profile) → IsOfKind kind profile → IsEquilibrium game profile
         → HasCompleteSolution game leaves kind }
+    ensures covers { (game : GameOf) → IsGame game → (trees : List TreeOf)
+        (named : List (List NamedOf)) → AreRightCovers game trees named
+        → (kind : AKind) (profile : Profile) → IsOfKind kind profile → IsEquilibrium game profile
+        → HasCompleteSolution game (covered game trees named) kind }
 {}
 
 /// Where a tree of choices refutes the system over covers of the players' points, with named points
