@@ -434,7 +434,7 @@ module _ (game : GameOf) where
   end_tree : (full : Bool) (box : BoxOf) (node : BNodeOf) (n : ℕ) → IsEndNode game box node
       → HasEndUnits game box n
       → (t : BoxTreeOf) × IsTreeBy game full box t n × (box_preorder t ≡ node ∷ [])
-  end_tree full box (CutNode i v at) n h units = absurd h
+  end_tree full box (CutNode i v bound) n h units = absurd h
   end_tree full box (EmptyNode i mult) n h units = (Empty i mult, (by full h, units), refl)
     where
       by : (full : Bool) → IsEndNode game box (EmptyNode i mult)
