@@ -8,8 +8,8 @@ The player's equilibrium is its optimum, so the verdict is `profile` with the le
 where there is no point or costs have no least. Costs are the least ones over all values of whole
 variables and sides of pairs, each time over the points and rays of the polyhedron that is left
 (regions.py). Beside that each case's linear program is solved by the simplex method, for all whole
-values that bounds allow, or for those of a window where there are bounds missing; a difference ends
-the script. A seed with too many cases is passed over.
+values that bounds allow, or for those of a window where there are bounds missing; a difference
+ends the script. A seed with too many cases is passed over.
 """
 import json
 import os

@@ -4,7 +4,7 @@
 SMALL = {
     "vars": (2, 3), "whole": 50, "bounded": 100, "up": (1, 3), "free": 0, "below": 0,
     "rows": (0, 2), "senses": 0, "pairs": (0, 0), "size": 5, "max": 0, "followers": (0, 0),
-    "terms": 75, "costs": 85,
+    "terms": 75, "costs": 85, "cost": 1,
 }
 
 
@@ -92,7 +92,7 @@ def player(draws, name, how):
     text["pairs"] = [p for p in pairs if p]
     count = draws.between(*how["followers"])
     text["followers"] = [follower(draws, k, texts, how) for k in range(count)]
-    text["cost"] = terms(draws, names_of(text), how["costs"], how["size"])
+    text["cost"] = terms(draws, names_of(text), how["costs"], max(1, how["size"] // how["cost"]))
     return {key: value for key, value in text.items() if value != []}
 
 

@@ -2,9 +2,10 @@
 """A player's feasible points as unions of polyhedra, given by points and rays, in whole numbers.
 
 For each choice of a side per pair, the points with whole values are listed value by value; where
-values have no bound, as far as is needed: a point of a rational polyhedron with whole values is one
-near the polyhedron's own points, and a sum of whole multiples of its rays (R. Meyer, 1974). Followers
-go by the conditions of their optimality; their multipliers are left out of what is listed.
+values have no bound, as far as is needed: a point of a rational polyhedron with whole values is
+one near the polyhedron's own points, and a sum of whole multiples of its rays (R. Meyer, 1974).
+Followers go by the conditions of their optimality, as pairs with multipliers; these are left out
+of what is listed.
 """
 from itertools import product
 from math import prod
@@ -78,7 +79,8 @@ def cell_at(player, rows, whole, values):
         return full
 
     points = [(lift(x, d), d) for x, d in points]
-    return Cell(without(points, player.base), without([lift(x, 0) for x in rays], player.base), values)
+    rays = [lift(x, 0) for x in rays]
+    return Cell(without(points, player.base), without(rays, player.base), values)
 
 
 def near(points, rays, v):
@@ -165,7 +167,8 @@ def answers_best(player, follower, point, over):
     slope = []
     for var, terms, add in player.pairs[len(player.pairs) - follower_pairs(player):]:
         if var in own:
-            slope.append(add * over + sum(a * point[v] for v, a in terms.items() if v < player.base))
+            given = sum(a * point[v] for v, a in terms.items() if v < player.base)
+            slope.append(add * over + given)
     left = []
     for terms, right in rows:
         given = sum(a * point[v] for v, a in terms.items() if v not in own)
