@@ -17,6 +17,7 @@ pub mod CoverRooms
 pub mod LengthWalks
 pub mod NamedForms
 pub mod Refusals
+pub mod RightLines
 pub mod VarPlaces
 pub mod Greatest
 pub mod PartSteps

@@ -1,7 +1,8 @@
-ghost use Rattle.std.specs.Prelude.{◌≡◌, ◌↔◌, length};
+ghost use Rattle.std.specs.Prelude.{◌≡◌, ◌↔◌, ℕ, length};
 ghost use Rattle.zr_game.specs.Players.{GameOf};
 ghost use Rattle.zr_game.specs.Forms.{IsGame};
 ghost use Rattle.zr_cert.specs.declared.fault.CertFault.{CertFault};
+ghost use Rattle.zr_cert.specs.declared.fault.CertFault.TheVariants.{Bad};
 ghost use Rattle.zr_cert.specs.Certs.{CertOf};
 ghost use Rattle.zr_cert.specs.Forms.{IsCert};
 ghost use Rattle.zr_check.specs.Right.{IsRightCert, IsRightHead};
@@ -17,7 +18,8 @@ pub fn law_of_right_certs()
 {}
 
 /// A certificate passes exactly where it is right and no step of its check is too wide. It is then
-/// not refused, and a certificate that is refused has one fault.
+/// not refused, and a certificate that is refused has one fault. A right certificate breaks no rule:
+/// it is refused only where a step is too wide.
 pub fn law_of_checks()
     ensures passes { (game : GameOf) → IsGame game → (c : CertOf) → IsCert c
         → CertPasses game c ↔ (IsRightCert game c × (HasWideStep game c → ⊥)) }
@@ -25,6 +27,8 @@ pub fn law_of_checks()
         → CertRefused game c fault → ⊥ }
     ensures one { (game : GameOf) (c : CertOf) (f g : CertFault) → CertRefused game c f
         → CertRefused game c g → f ≡ g }
+    ensures unbroken { (game : GameOf) → IsGame game → (c : CertOf) → IsCert c → IsRightCert game c
+        → (line : ℕ) → CertRefused game c (Bad line) → ⊥ }
     ensures head { (game : GameOf) (c : CertOf) → IsCert c
         → HeadPasses game c ↔ ((c.players ≡ length game) × IsRightHead game c.kind c.verdict
         × (HeadIsWide game c.verdict → ⊥)) }

@@ -1,6 +1,7 @@
 use Rattle.zr_check.proofs.Passing.{narrow_if_cert_passes, right_if_passes}
 use Rattle.zr_check.proofs.Narrow.{cert_passes, head_is}
 use Rattle.zr_check.proofs.Refusals.{cert_apart, cert_one, head_apart, head_one}
+use Rattle.zr_check.proofs.RightLines.{cert_keeps}
 use Rattle.zr_check.proofs.laws.law_of_checks.Goals as goal
 
 pub returns-clause-passes : goal.returns-clause-passes
@@ -21,3 +22,6 @@ returns-clause-head_one c = head_one
 
 pub returns-clause-head : goal.returns-clause-head
 returns-clause-head c = head_is
+
+pub returns-clause-unbroken : goal.returns-clause-unbroken
+returns-clause-unbroken c = cert_keeps
