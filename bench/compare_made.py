@@ -18,6 +18,7 @@ import argparse
 import json
 import os
 import re
+import shutil
 import subprocess
 import sys
 import tempfile
@@ -167,6 +168,8 @@ def counted(program, item, kind, tell):
         column, what = "differ", "check or best takes too long"
     except Differs as differs:
         column, what = "differ", str(differs)
+    except (IndexError, ValueError) as error:
+        column, what = "differ", f"a text can't be read: {error}"
     seconds = time.monotonic() - start
     if tell or what:
         words = ["seed", item["seed"], item["plan"] + ",", kind + ":", column, what]
@@ -198,7 +201,10 @@ def main():
     words = read_words()
     lists = [n for n in ("players", "games") if getattr(words, n)] or ["players", "games"]
     kinds = [words.kind] if words.kind else ["pure", "mixed"]
-    path = os.path.abspath(words.program) if os.sep in words.program else words.program
+    path = shutil.which(words.program)
+    if path is None:
+        sys.exit(f"there is no program {words.program}")
+    path = os.path.abspath(path)
     folder = os.path.join(os.path.dirname(os.path.abspath(__file__)), "made")
     table = {}
     with tempfile.TemporaryDirectory() as place:
