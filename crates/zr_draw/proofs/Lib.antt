@@ -1,3 +1,4 @@
 pub mod Columns
 pub mod Raw
+pub mod Short
 pub mod Tidied

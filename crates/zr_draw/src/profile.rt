@@ -1,4 +1,5 @@
 ghost use Rattle.std.specs.Prelude.{◌<◌, ◌≤◌, IfOk, length};
+ghost use Rattle.std.specs.List.{All};
 ghost use Rattle.zr_game.specs.Games.{game_of};
 ghost use Rattle.zr_cert.specs.Certs.{mixture_of, mixtures_of};
 ghost use Rattle.zr_comp.specs.Answers.{IsSolution};
@@ -32,14 +33,23 @@ fn strategy_of(
     requires player { i < length (game_of game.now) }
     requires parts { AreParts (drawn_strategy (game_of game.now) (leaves_of leaves.now)
         (numbers_of (game_of game.now) (leaves_of leaves.now) x.now) i) }
-    ensures { IfOk result (λ strategy. IsTidied (drawn_strategy (game_of game.now)
+    ensures tidied { IfOk result (λ strategy. IsTidied (drawn_strategy (game_of game.now)
         (leaves_of leaves.now) (numbers_of (game_of game.now) (leaves_of leaves.now) x.now) i)
         (mixture_of strategy)) }
+    ensures few { IfOk result (λ strategy. length strategy.parts.items
+        ≤ length (drawn_strategy (game_of game.now) (leaves_of leaves.now)
+        (numbers_of (game_of game.now) (leaves_of leaves.now) x.now) i)) }
 {
     let Ok(parts) = drawn_parts(alloc, game, leaves, x, i) else {
         return Err(NoMemory);
     };
-    tidy(alloc, &parts)
+    let Ok(strategy) = tidy(alloc, &parts) else {
+        return Err(NoMemory);
+    };
+    if strategy.parts.len() > parts.len() {
+        return Err(NoMemory);
+    }
+    Ok(strategy)
 }
 
 /// The profile that a solution of the system over the leaves draws: each leaf with weight is played
@@ -48,7 +58,8 @@ fn strategy_of(
 ///
 /// The leaves are right covers of the players' feasible points, each of which counts as exact, and
 /// the system has at most 16,777,216 cells where no choice is made. The solution's numbers are
-/// those of the unknowns, in the order of their columns. The call fails for want of memory alone.
+/// those of the unknowns, in the order of their columns. A strategy has at most as many parts as
+/// there are cells. The call fails for want of memory alone.
 pub fn draw(
     alloc: Global,
     game: &Game,
@@ -61,8 +72,10 @@ pub fn draw(
     requires exact { AreExact (game_of game.now) (leaves_of leaves.now) }
     requires cells { cell_count (game_of game.now) (leaves_of leaves.now) ≤ 16777216 }
     requires solution { IsSolution (game_of game.now) (leaves_of leaves.now) kind x.now }
-    ensures { IfOk result (λ profile. IsDrawnProfile (game_of game.now) (leaves_of leaves.now) kind
-        x.now (mixtures_of profile)) }
+    ensures drawn { IfOk result (λ profile. IsDrawnProfile (game_of game.now)
+        (leaves_of leaves.now) kind x.now (mixtures_of profile)) }
+    ensures few { IfOk result (λ profile. All (λ m. length m.parts ≤ 16777216)
+        (mixtures_of profile)) }
 {
     let _kind = kind;
     let _denominator = x.den();

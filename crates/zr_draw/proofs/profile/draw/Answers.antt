@@ -1,13 +1,14 @@
-use Rattle.std.proofs.Common.{ℕ, ◌≡◌, ◌<◌, arith, subst, [], ◌∷◌, length, map}
-use Rattle.std.proofs.lemmas.List.{map-append}
+use Rattle.std.proofs.Common.{◌≡◌, ◌<◌, arith, [], ◌∷◌, length, map}
+use Rattle.std.proofs.lemmas.List.{length-map, map-append}
 use Rattle.zr_game.specs.Games.{game_of}
+use Rattle.zr_mix.specs.Mixtures.{part_of}
 use Rattle.zr_cert.specs.Certs.{mixture_of}
 use Rattle.zr_comp.proofs.Few.{few_columns}
 use Rattle.zr_system.specs.Regions.{leaves_of}
 use Rattle.zr_draw.specs.Numbers.{numbers_of}
 use Rattle.zr_draw.proofs.Columns.{den_is, solves_complete}
 use Rattle.zr_draw.proofs.Raw.{are_parts}
-use Rattle.zr_draw.proofs.Tidied.{AreTidied, is_drawn, one_more}
+use Rattle.zr_draw.proofs.Tidied.{all_tidied, are_few, is_drawn, one_more}
 use Rattle.zr_draw.proofs.profile.draw.Goals as goal
 
 pub strategy_of-requires-clause-columns : goal.strategy_of-requires-clause-columns
@@ -35,19 +36,31 @@ loop-i-preserved c =
     let leaves = leaves_of c.args.leaves.now in
     let old = c.loop-i.strategies.items in
     let new = c.in-Ok.strategy in
+    let l = length-map new.parts.items part_of in
+    let f = c.in-Ok.ensures.few in
     rw c.in-Ok-push.ensures.items (rw (map-append mixture_of old (new ∷ []))
     (one_more game leaves (numbers_of game leaves c.args.x.now) c.loop-i.i (map mixture_of old)
-    (mixture_of new) c.loop-i.invariant c.in-Ok.ensures))
+    (mixture_of new) c.loop-i.invariant c.in-Ok.ensures.tidied (omega (arith, l, f))))
 
-pub returns : goal.returns
-returns c =
+pub returns-clause-drawn : goal.returns-clause-drawn
+returns-clause-drawn c =
     let game = game_of c.args.game.now in
     let leaves = leaves_of c.args.leaves.now in
-    let x = c.args.x.now in
     let made = map mixture_of c.loop-i.strategies.items in
     let all : c.loop-i.i ≡ length game =
     omega (arith, c.loop-i-test.false, c.loop-i.auto.i-end, c.player_count-i-end.ensures.count) in
-    is_drawn game c.args.game.now.sound leaves c.requires.covers c.requires.exact c.args.kind x
-    c.requires.solution made
-    (subst (λ (n : ℕ). AreTidied game leaves (numbers_of game leaves x) n made) all
+    is_drawn game c.args.game.now.sound leaves c.requires.covers c.requires.exact c.args.kind
+    c.args.x.now c.requires.solution made
+    (all_tidied game leaves (numbers_of game leaves c.args.x.now) made c.loop-i.i all
     c.loop-i.invariant)
+
+pub returns-clause-few : goal.returns-clause-few
+returns-clause-few c =
+    let game = game_of c.args.game.now in
+    let leaves = leaves_of c.args.leaves.now in
+    let made = map mixture_of c.loop-i.strategies.items in
+    let all : c.loop-i.i ≡ length game =
+    omega (arith, c.loop-i-test.false, c.loop-i.auto.i-end, c.player_count-i-end.ensures.count) in
+    are_few game leaves (numbers_of game leaves c.args.x.now) made
+    (all_tidied game leaves (numbers_of game leaves c.args.x.now) made c.loop-i.i all
+    c.loop-i.invariant) 16777216 c.requires.cells
