@@ -1,2 +1,9 @@
 pub mod Weighing
 pub mod Tidying
+pub mod Totals
+pub mod Lowering
+pub mod Puts
+pub mod Printed
+pub mod Greatest
+pub mod Orderings
+pub mod Kept

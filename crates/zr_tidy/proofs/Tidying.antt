@@ -4,9 +4,9 @@ use Rattle.std.proofs.Math.Nat.{dvd_of_mul-dvd-mul_right, eq-one_of_dvd-one, mul
 use Rattle.std.proofs.lemmas.Int.{ints, unsigned_abs-mul}
 use Rattle.std.proofs.lemmas.Option.{same_Some}
 use Rattle.std.specs.Int.{◌∣◌}
-use Rattle.zr_base.specs.Points.{PointOf}
+use Rattle.zr_base.specs.Points.{IsSamePoint, PointOf}
 use Rattle.zr_base.proofs.Divisors.{positive_factor}
-use Rattle.zr_base.proofs.Members.{each_of_all}
+use Rattle.zr_base.proofs.Members.{each_of, each_of_all}
 use Rattle.zr_base.proofs.Worth.{Each}
 use Rattle.zr_game.specs.Profiles.{Part, Strategy}
 use Rattle.zr_tidy.specs.Merges.{AreDivided, AreMerged, HasPut, alone, before, met, after, done, more}
@@ -51,8 +51,8 @@ ascend_put p old new (after q rest next b put) h =
 pub ascend_merged : (old raw new : Strategy) → AreMerged old raw new → Ascend old → Ascend new
 ascend_merged old [] new m h = subst Ascend m h
 ascend_merged old (p ∷ ps) new m h =
-    ascend_merged m.1 ps new m.5
-    (ascend_put (record { weight = p.weight; point = m.0 }) old m.1 m.4 h)
+    ascend_merged m.0 ps new m.2
+    (ascend_put (record { weight = p.weight; point = m.1.point }) old m.0 m.1.put h)
 
 head_divided : (x : PointOf) (by : ℤ) (old new : Strategy) → AreDivided by old new
     → IsBeforeHead x old → IsBeforeHead x new
@@ -70,31 +70,38 @@ ascend_divided by old new (more p q ps qs e w rest) h = (
 
 -- ---- points and weights
 
-abbrev pub IsLowestPart : Part → Type 0
-IsLowestPart part = IsLowestPoint part.point
-
 abbrev pub HasWeight : Part → Type 0
 HasWeight part = (pos 1) ≤ℤ part.weight
 
-lowest_put : (p : Part) (old new : Strategy) → HasPut p old new → Each IsLowestPart old
-    → IsLowestPart p → Each IsLowestPart new
-lowest_put p old new alone h l = (l, tt)
-lowest_put p old new (before q rest b) h l = (l, h)
-lowest_put p old new (met q rest same) h l = h
-lowest_put p old new (after q rest next b put) h l = (h.0, lowest_put p rest next put h.1 l)
+-- what holds of the old points and of those that are put among them holds of the new ones
+module _ (P : PointOf → Type 0) where
+  abbrev pub EachPoint : Strategy → Type 0
+  EachPoint parts = Each (λ part. P part.point) parts
 
-pub lowest_merged : (old raw new : Strategy) → AreMerged old raw new → Each IsLowestPart old
-    → Each IsLowestPart new
-lowest_merged old [] new m h = subst (Each IsLowestPart) m h
-lowest_merged old (p ∷ ps) new m h =
-    lowest_merged m.1 ps new m.5
-    (lowest_put (record { weight = p.weight; point = m.0 }) old m.1 m.4 h m.3)
+  pub points_put : (p : Part) (old new : Strategy) → HasPut p old new → EachPoint old → P p.point
+      → EachPoint new
+  points_put p old new alone h l = (l, tt)
+  points_put p old new (before q rest b) h l = (l, h)
+  points_put p old new (met q rest same) h l = h
+  points_put p old new (after q rest next b put) h l = (h.0, points_put p rest next put h.1 l)
 
-pub lowest_divided : (by : ℤ) (old new : Strategy) → AreDivided by old new
-    → Each IsLowestPart old → Each IsLowestPart new
-lowest_divided by old new done h = tt
-lowest_divided by old new (more p q ps qs e w rest) h =
-    (subst IsLowestPoint (sym e) h.0, lowest_divided by ps qs rest h.1)
+  -- a part's point in lowest terms
+  abbrev pub Lowered : Part → Type 0
+  Lowered raw = (x : PointOf) → IsSamePoint x raw.point → IsLowestPoint x → P x
+
+  pub points_merged : (old raw new : Strategy) → AreMerged old raw new → EachPoint old
+      → Each Lowered raw → EachPoint new
+  points_merged old [] new m h k = subst EachPoint m h
+  points_merged old (p ∷ ps) new m h k =
+      points_merged m.0 ps new m.2
+      (points_put (record { weight = p.weight; point = m.1.point }) old m.0 m.1.put h
+      (k.0 m.1.point m.1.same m.1.lowest)) k.1
+
+  pub points_divided : (by : ℤ) (old new : Strategy) → AreDivided by old new → EachPoint old
+      → EachPoint new
+  points_divided by old new done h = tt
+  points_divided by old new (more p q ps qs e w rest) h =
+      (subst P (sym e) h.0, points_divided by ps qs rest h.1)
 
 pub weight_put : (p : Part) (old new : Strategy) → HasPut p old new → Each HasWeight old
     → HasWeight p → Each HasWeight new
@@ -107,8 +114,8 @@ pub weight_merged : (old raw new : Strategy) → AreMerged old raw new → Each 
     → Each HasWeight raw → Each HasWeight new
 weight_merged old [] new m h k = subst (Each HasWeight) m h
 weight_merged old (p ∷ ps) new m h k =
-    weight_merged m.1 ps new m.5
-    (weight_put (record { weight = p.weight; point = m.0 }) old m.1 m.4 h k.0) k.1
+    weight_merged m.0 ps new m.2
+    (weight_put (record { weight = p.weight; point = m.1.point }) old m.0 m.1.put h k.0) k.1
 
 pub weight_divided : (by : ℤ) → (pos 0) <ℤ by → (old new : Strategy) → AreDivided by old new
     → Each HasWeight old → Each HasWeight new
@@ -124,7 +131,7 @@ weight_divided by above old new (more p q ps qs e w rest) h =
 abbrev pub Divides : ℕ → Part → Type 0
 Divides d part = d ∣ unsigned_abs part.weight
 
-raised : (d : ℕ) (by a b : ℤ) → a *ℤ by ≡ b → d ∣ unsigned_abs a
+pub raised : (d : ℕ) (by a b : ℤ) → a *ℤ by ≡ b → d ∣ unsigned_abs a
     → d * unsigned_abs by ∣ unsigned_abs b
 raised d by a b e h =
     subst (λ m. d * unsigned_abs by ∣ m) (sym (unsigned_abs-mul a by) ∙ ap unsigned_abs e)
@@ -144,8 +151,9 @@ pub is_tidy : (raw merged parts : Strategy) (by : ℤ) → (pos 0) <ℤ by → A
     → AreMerged [] raw merged → AreDivided by merged parts
     → ((d : ℕ) → All (Divides d) merged → d ∣ unsigned_abs by) → IsTidy parts
 is_tidy raw merged parts by above weights m div greatest = record {
-  points = all_of_each IsLowestPart parts (lowest_divided by merged parts div
-      (lowest_merged [] raw merged m tt));
+  points = all_of_each (λ part. IsLowestPoint part.point) parts
+      (points_divided IsLowestPoint by merged parts div (points_merged IsLowestPoint [] raw merged m
+      tt (each_of (Lowered IsLowestPoint) raw (λ p h x same lowest. lowest))));
   weights = all_of_each HasWeight parts (weight_divided by above merged parts div
       (weight_merged [] raw merged m tt (each_of_all HasWeight raw weights)));
   ascend = by_places parts (ascend_divided by merged parts div (ascend_merged [] raw merged m tt));

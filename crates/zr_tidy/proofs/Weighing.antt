@@ -103,9 +103,11 @@ module _ (f : PointOf → Fraction) where
         let e : s ≡ s +ℤ t = omega (arith, ints, k) in
         subst (λ z. IsWeighed d f new z) e (subst (λ ps. IsWeighed d f ps s) m h)
     weighed_merged old (p ∷ ps) new s t m h k =
-        let w = at_same p.point m.0 k.0 (same_point_sym m.0 p.point m.2) k.2 in
-        let next = weighed_put (record { weight = p.weight; point = m.0 }) old m.1 s k.0 m.4 h w in
-        let r = weighed_merged m.1 ps new (s +ℤ p.weight *ℤ k.0) k.1 m.5 next k.4 in
+        let x = m.1.point in
+        let w = at_same p.point x k.0 (same_point_sym x p.point m.1.same) k.2 in
+        let put = m.1.put in
+        let next = weighed_put (record { weight = p.weight; point = x }) old m.0 s k.0 put h w in
+        let r = weighed_merged m.0 ps new (s +ℤ p.weight *ℤ k.0) k.1 m.2 next k.4 in
         let g = k.3 in
         let e : (s +ℤ p.weight *ℤ k.0) +ℤ k.1 ≡ s +ℤ t = omega (arith, ints, g) in
         subst (λ z. IsWeighed d f new z) e r
@@ -137,8 +139,8 @@ pub total_merged : (old raw new : Strategy) → AreMerged old raw new
     → total new ≡ total old +ℤ total raw
 total_merged old [] new m = let e = ap total m in omega (arith, ints, e)
 total_merged old (p ∷ ps) new m =
-    let a = total_put (record { weight = p.weight; point = m.0 }) old m.1 m.4 in
-    let r = total_merged m.1 ps new m.5 in
+    let a = total_put (record { weight = p.weight; point = m.1.point }) old m.0 m.1.put in
+    let r = total_merged m.0 ps new m.2 in
     omega (arith, ints, a, r)
 
 pub total_divided : (by : ℤ) (old new : Strategy) → AreDivided by old new

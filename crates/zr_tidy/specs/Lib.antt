@@ -1,3 +1,4 @@
 pub mod Points
 pub mod Tidy
 pub mod Merges
+pub mod Places

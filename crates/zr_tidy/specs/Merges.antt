@@ -15,12 +15,18 @@ pub data HasPut (part : Part) : Strategy → Strategy → Type 0 where
   after : (q : Part) (rest new : Strategy) → IsBefore q.point part.point → HasPut part rest new
       → HasPut part (q ∷ rest) (q ∷ new)
 
+-- the part is put among the old ones, with its point in lowest terms
+pub record HasPutLowest (raw : Part) (old new : Strategy) : Type 0 where
+  pub point : PointOf
+  pub same : IsSamePoint point raw.point
+  pub lowest : IsLowestPoint point
+  pub put : HasPut (record { weight = raw.weight; point = point }) old new
+
 -- part by part, with its point in lowest terms, all are put among the old parts
 abbrev pub AreMerged : Strategy → Strategy → Strategy → Type 0
 AreMerged old [] new = old ≡ new
 AreMerged old (raw ∷ parts) new =
-    (x : PointOf) × (next : Strategy) × IsSamePoint x raw.point × IsLowestPoint x
-    × HasPut (record { weight = raw.weight; point = x }) old next × AreMerged next parts new
+    (next : Strategy) × HasPutLowest raw old next × AreMerged next parts new
 
 -- the same points, with weights that are the old ones over the divisor
 pub data AreDivided (by : ℤ) : Strategy → Strategy → Type 0 where

@@ -1,5 +1,5 @@
 -- Strategies in the form in which they are printed.
-use Rattle.std.specs.Prelude.{◌≡◌, ℕ, suc, ◌<◌, pos, ◌≤ℤ◌, unsigned_abs, Some, [], ◌∷◌, length, slice_get}
+use Rattle.std.specs.Prelude.{◌≡◌, ℕ, suc, ◌<◌, ℤ, pos, ◌<ℤ◌, ◌≤ℤ◌, unsigned_abs, Some, [], ◌∷◌, length, slice_get}
 use Rattle.std.specs.Int.{◌∣◌}
 use Rattle.std.specs.List.{All, Contains}
 use Rattle.zr_base.specs.Points.{IsSamePoint, PointOf}
@@ -10,13 +10,23 @@ use Rattle.zr_cert.specs.Forms.{IsMixtureForm}
 use Rattle.zr_system.specs.Alike.{IsAlike}
 use Rattle.zr_tidy.specs.Points.{IsBefore, IsLowestPoint}
 
+-- the number divides all weights
+abbrev pub DividesWeights : ℕ → Strategy → Type 0
+DividesWeights d parts = All (λ part. d ∣ unsigned_abs part.weight) parts
+
+-- the greatest number that divides all weights: a multiple of every other
+pub record IsGreatestWeight (z : ℤ) (parts : Strategy) : Type 0 where
+  pub positive : (pos 0) <ℤ z
+  pub divides : DividesWeights (unsigned_abs z) parts
+  pub greatest : (d : ℕ) → DividesWeights d parts → d ∣ unsigned_abs z
+
 -- points in lowest terms that ascend, and weights of at least 1 without a common divisor above 1
 pub record IsTidy (parts : Strategy) : Type 0 where
   pub points : All (λ part. IsLowestPoint part.point) parts
   pub weights : All (λ part. (pos 1) ≤ℤ part.weight) parts
   pub ascend : (k : ℕ) (a b : Part) → slice_get parts k ≡ Some a → slice_get parts (suc k) ≡ Some b
       → IsBefore a.point b.point
-  pub coprime : (d : ℕ) → All (λ part. d ∣ unsigned_abs part.weight) parts → d ≡ 1
+  pub coprime : (d : ℕ) → DividesWeights d parts → d ≡ 1
 
 -- how many numbers the first part's point has
 abbrev pub width : Strategy → ℕ

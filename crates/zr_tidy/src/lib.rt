@@ -3,6 +3,8 @@
 #![tactic(auto)]
 
 mod laws;
+mod merge;
+mod point;
 mod strategy;
 
 pub use laws::law_of_tidying;
