@@ -27,7 +27,8 @@ multiples n d k num den over under = rw (← over, ← under) (simp spread)
 
 -- the number divides each of the list
 abbrev pub DividesEach : ℤ → List ℤ → Type 0
-DividesEach z xs = (v : ℕ) → v < length xs → unsigned_abs z ∣ unsigned_abs (slice_index_or xs v (pos 0))
+DividesEach z xs =
+    (v : ℕ) → v < length xs → unsigned_abs z ∣ unsigned_abs (slice_index_or xs v (pos 0))
 
 abbrev without : ℤ → List ℤ → List ℤ
 without z xs = map (λ n. int_div n z) xs

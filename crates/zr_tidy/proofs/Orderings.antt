@@ -36,8 +36,8 @@ value_order r x y a b s t e =
         → IsValueOrder q a b
     ranked Less h = less_same x y a b s t h
     ranked Equal h =
-        same_through a y b
-        (same_through a x y (same_sym x a s) (record { left = s.left; right = t.left; cross = h })) t
+        let e : IsSame x y = record { left = s.left; right = t.left; cross = h } in
+        same_through a y b (same_through a x y (same_sym x a s) e) t
     ranked Greater h = less_same y x b a t s h
 
 no_number : (x : PointOf) (v : ℕ) → length x.num ≤ v → num_of x v ≡ pos 0

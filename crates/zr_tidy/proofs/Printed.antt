@@ -194,7 +194,8 @@ module _ (raw merged parts : Strategy) (z : ℤ) (given : AreParts raw) (m : Are
         };
         total_is = refl;
         tidy = tidied_tidy;
-        alike = are_alike raw merged parts z g.positive (some raw merged given m) (dens_merged [] raw merged m) m div;
+        alike = are_alike raw merged parts z g.positive (some raw merged given m)
+            (dens_merged [] raw merged m) m div;
         points = all_of_each (λ part. IsPointOf raw part.point) parts tidied_points;
         lengths = all_of_each (λ part. HasLength (width raw) part.point) parts tidied_lengths;
         pure = tidied_one;

@@ -9,3 +9,6 @@ mod strategy;
 
 pub use laws::law_of_tidying;
 pub use strategy::tidy;
+
+#[cfg(test)]
+mod tests;

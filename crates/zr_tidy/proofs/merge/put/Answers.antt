@@ -30,7 +30,8 @@ found_there c =
     let xs = c.args.parts.now.items in
     let n = length-map xs part_of in
     let w = slice_get_within (map part_of xs) c.in-Met.k (met c).0 (met c).1 in
-    found part_of xs c.in-Met.k c.index_mut.result.now (omega (arith, n, w)) c.index_mut.ensures.value
+    found part_of xs c.in-Met.k c.index_mut.result.now (omega (arith, n, w))
+    c.index_mut.ensures.value
 
 bounds : (c : After-index_mut)
     → (c.index_mut.result.now.weight ≤ℤ total (map part_of c.args.parts.now.items))
@@ -71,7 +72,8 @@ returns-in-Met c =
     (one (map part_of xs) c.in-Met.k m.0 (part_of x) m.1 there) m.2 in
     let new : KeptPart = record { weight = q +ℤ w; point = x.point } in
     simp to_z-of_z
-    (subst (λ (ys : Strategy). HasPut p (map part_of xs) ys) (sym (map-set part_of xs c.in-Met.k new))
+    (subst (λ (ys : Strategy). HasPut p (map part_of xs) ys)
+    (sym (map-set part_of xs c.in-Met.k new))
     (put_met p (map part_of xs) c.in-Met.k (part_of x) there same m.3))
 
 pub returns-in-Ok : goal.returns-in-Ok

@@ -10,7 +10,8 @@ loop-v-init c =
     let f : FitsSigned w128 c.den-shared.result = search rules in
     let positive = rw c.den-shared.ensures.value at c.den-shared.ensures.positive in
     simp to_z-of_z
-    (subst (λ (z : ℤ). IsDivisorTo 0 z x) (sym c.den-shared.ensures.value) (divisor_none x positive))
+    (subst (λ (z : ℤ). IsDivisorTo 0 z x) (sym c.den-shared.ensures.value)
+    (divisor_none x positive))
 
 pub loop-v-preserved : goal.loop-v-preserved
 loop-v-preserved c =

@@ -25,7 +25,8 @@ loop-v-preserved c =
     let value = rw c.num.ensures.value at (simp to_z-of_z at c.divided.ensures.value) in
     let before = simp to_z-of_z at c.loop-v.invariant in
     let push = simp to_z-of_z at c.in_ok-push.ensures.items in
-    let more = map_more (λ (n : ℤ). int_div n by) xs c.loop-v.v (pos 0) (omega (arith, inside, len)) in
+    let more = map_more (λ (n : ℤ). int_div n by) xs c.loop-v.v (pos 0)
+    (omega (arith, inside, len)) in
     simp to_z-of_z (cc (before, push, more, value))
 
 pub returns : goal.returns
