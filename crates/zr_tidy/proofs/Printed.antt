@@ -1,5 +1,5 @@
 -- What is put in order, merged and divided is the strategy as it is printed.
-use Rattle.std.proofs.Common.{◌≡◌, ℕ, suc, ◌<◌, arith, refl, sym, ap, subst, ◌∙◌, ℤ, pos, ◌+ℤ◌, ◌*ℤ◌, ◌<ℤ◌, ◌≤ℤ◌, unsigned_abs, [], ◌∷◌, length, inl, inr}
+use Rattle.std.proofs.Common.{◌≡◌, ℕ, suc, ◌+◌, ◌<◌, ◌≤◌, arith, refl, sym, ap, subst, ◌∙◌, ℤ, pos, ◌+ℤ◌, ◌*ℤ◌, ◌<ℤ◌, ◌≤ℤ◌, unsigned_abs, [], ◌∷◌, length, inl, inr}
 use Rattle.std.specs.List.{Contains}
 use Rattle.std.proofs.lemmas.Int.{ints}
 use Rattle.std.proofs.lemmas.Nat.Gcd.{dvd_refl}
@@ -80,6 +80,28 @@ pub lengths_merged : (n : ℕ) (raw merged : Strategy) → EachPoint (HasLength 
     → AreMerged [] raw merged → EachPoint (HasLength n) merged
 lengths_merged n raw merged h m =
     points_merged (HasLength n) [] raw merged m tt (lengths_lowered n raw h)
+
+-- ---- no more parts
+
+few_put : (p : Part) (old new : Strategy) → HasPut p old new → length new ≤ length old + 1
+few_put p old new alone = omega arith
+few_put p old new (before q rest b) = omega arith
+few_put p old new (met q rest same) = omega arith
+few_put p old new (after q rest next b put) =
+    let r = few_put p rest next put in omega (arith, r)
+
+few_merged : (old raw new : Strategy) → AreMerged old raw new
+    → length new ≤ length old + length raw
+few_merged old [] new m = let e = ap (λ (s : Strategy). length s) m in omega (arith, e)
+few_merged old (p ∷ ps) new m =
+    let a = few_put (record { weight = p.weight; point = m.1.point }) old m.0 m.1.put in
+    let b = few_merged m.0 ps new m.2 in
+    omega (arith, a, b)
+
+same_count : (by : ℤ) (old new : Strategy) → AreDivided by old new → length new ≡ length old
+same_count by old new done = refl
+same_count by old new (more p q ps qs e w rest) =
+    let r = same_count by ps qs rest in omega (arith, r)
 
 -- ---- one part
 
@@ -178,6 +200,12 @@ module _ (raw merged parts : Strategy) (z : ℤ) (given : AreParts raw) (m : Are
       points_divided (IsPointOf raw) z merged parts div
       (points_merged (IsPointOf raw) [] raw merged m tt (points_lowered raw))
 
+  tidied_few : length parts ≤ length raw
+  tidied_few =
+      let a = few_merged [] raw merged m in
+      let b = same_count z merged parts div in
+      omega (arith, a, b)
+
   tidied_one : length raw ≡ 1 → (x : PointOf) × (parts ≡ surely x)
   tidied_one h =
       let r = one_divided z merged parts div (one_merged raw merged m h) in
@@ -196,6 +224,7 @@ module _ (raw merged parts : Strategy) (z : ℤ) (given : AreParts raw) (m : Are
         tidy = tidied_tidy;
         alike = are_alike raw merged parts z g.positive (some raw merged given m)
             (dens_merged [] raw merged m) m div;
+        few = tidied_few;
         points = all_of_each (λ part. IsPointOf raw part.point) parts tidied_points;
         lengths = all_of_each (λ part. HasLength (width raw) part.point) parts tidied_lengths;
         pure = tidied_one;

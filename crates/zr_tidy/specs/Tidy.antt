@@ -1,5 +1,5 @@
 -- Strategies in the form in which they are printed.
-use Rattle.std.specs.Prelude.{◌≡◌, ℕ, suc, ◌<◌, ℤ, pos, ◌<ℤ◌, ◌≤ℤ◌, unsigned_abs, Some, [], ◌∷◌, length, slice_get}
+use Rattle.std.specs.Prelude.{◌≡◌, ℕ, suc, ◌<◌, ◌≤◌, ℤ, pos, ◌<ℤ◌, ◌≤ℤ◌, unsigned_abs, Some, [], ◌∷◌, length, slice_get}
 use Rattle.std.specs.Int.{◌∣◌}
 use Rattle.std.specs.List.{All, Contains}
 use Rattle.zr_base.specs.Points.{IsSamePoint, PointOf}
@@ -46,13 +46,14 @@ pub record AreParts (parts : Strategy) : Type 0 where
 abbrev pub IsPointOf : Strategy → PointOf → Type 0
 IsPointOf parts x = (part : Part) × Contains parts part × IsSamePoint x part.point
 
--- the strategy of these parts as it is printed: tidy, with the same points, and each quantity of
--- points has the same expected value; one part stays one, of weight 1
+-- the strategy of these parts as it is printed: tidy, with no more parts, at the same points, and
+-- each quantity of points has the same expected value; one part stays one, of weight 1
 pub record IsTidied (raw : Strategy) (m : MixtureOf) : Type 0 where
   pub form : IsMixtureForm m
   pub total_is : m.total ≡ total m.parts
   pub tidy : IsTidy m.parts
   pub alike : IsAlike raw m.parts
+  pub few : length m.parts ≤ length raw
   pub points : All (λ part. IsPointOf raw part.point) m.parts
   pub lengths : All (λ part. length part.point.num ≡ width raw) m.parts
   pub pure : length raw ≡ 1 → (x : PointOf) × (m.parts ≡ surely x)
