@@ -4,10 +4,14 @@
     knapsacks.py FOLDER                        the family below
     knapsacks.py FOLDER knapsack P ITEMS N     one game of P players and ITEMS items, by number N
     knapsacks.py FOLDER leaders P N            one game of P leaders with a follower each
+    knapsacks.py FOLDER chase P ITEMS N        one game that `gen` doesn't make, of P players
 
 - knapsack: players `p0`, `p1` and so on with binary variables `x0`, `x1` and so on, one row on the
   weights, and a cross term of each item with each other player's.
 - leaders: each has a continuous `x` and a follower with `f` below it; the followers' `f` cross.
+- chase: the knapsack game with five times the numbers of the cross terms, the last player's
+  negated, so that the last one seeks what the others avoid. A game of the family `knapsack` rarely
+  lacks a pure equilibrium; one of these often does.
 
 The numbers are drawn by state' = (6364136223846793005 * state + 1442695040888963407) mod 2^64 from
 the game's number, a draw below m being (state div 2^33) mod m. In the family there are two and
@@ -50,6 +54,15 @@ def knapsack(players, items, number):
     return {"format": "zero-game/1", "players": texts}
 
 
+def chase(players, items, number):
+    game = knapsack(players, items, number)
+    for player in game["players"]:
+        times = -5 if player is game["players"][-1] else 5
+        for term in player["cross"]:
+            term[3] *= times
+    return game
+
+
 def leaders(players, number):
     draws = Draws(number)
     names = [f"p{i}" for i in range(players)]
@@ -74,7 +87,7 @@ def write(folder, game, kind, *sizes):
 
 def main():
     folder, words = sys.argv[1], sys.argv[2:]
-    makers = {"knapsack": knapsack, "leaders": leaders}
+    makers = {"knapsack": knapsack, "leaders": leaders, "chase": chase}
     os.makedirs(folder, exist_ok=True)
     if words:
         write(folder, makers[words[0]], words[0], *[int(word) for word in words[1:]])
