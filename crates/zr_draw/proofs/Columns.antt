@@ -1,4 +1,4 @@
--- Where a point meets the rows over the columns, the numbers of the unknowns at it solve the system.
+-- Where a point meets the rows over the columns, the numbers of the unknowns solve the system.
 use Rattle.std.proofs.Common.{◌≡◌, ℕ, zero, suc, ◌+◌, ◌<◌, arith, refl, sym, ap, ap₂, add-one, subst, ◌∙◌, ℤ, pos, neg_ℤ, ◌+ℤ◌, ◌*ℤ◌, Bool, true, false, Some, List, [], ◌∷◌, ◌++◌, length, get_or, slice_get}
 use Rattle.std.specs.Ordering.{int_eq}
 use Rattle.std.proofs.lemmas.Option.{same_Some, slice_get-get_or, slice_get_within}

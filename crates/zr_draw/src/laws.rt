@@ -12,9 +12,9 @@ ghost use Rattle.zr_system.specs.Unknowns.{columns};
 ghost use Rattle.zr_system.specs.declared.unknown.Unknown.{Unknown as AnUnknown};
 ghost use Rattle.zr_system.specs.declared.unknown.Unknown.TheVariants.{One};
 
-/// The numbers of the unknowns are those that the point has at their columns, over its denominator;
-/// and where the point meets the rows under a complete list of choices, these numbers solve the
-/// system under it.
+/// The numbers of the unknowns are those that the point has at their columns, over its
+/// denominator; and where the point meets the rows under a complete list of choices, these numbers
+/// solve the system under it.
 pub fn law_of_numbers()
     ensures columns { (game : GameOf) (leaves : LeavesOf) (x : PointOf) (j : ℕ) (u : AnUnknown)
         → slice_get (columns game leaves) j ≡ Some u → numbers_of game leaves x u ≡ num_of x j }

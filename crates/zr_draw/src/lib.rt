@@ -7,3 +7,6 @@ mod profile;
 
 pub use laws::law_of_numbers;
 pub use profile::draw;
+
+#[cfg(test)]
+mod tests;

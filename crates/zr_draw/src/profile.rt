@@ -52,9 +52,9 @@ fn strategy_of(
     Ok(strategy)
 }
 
-/// The profile that a solution of the system over the leaves draws: each leaf with weight is played
-/// with this weight, at its shares over it, in the form in which strategies are printed. It is an
-/// equilibrium of the kind.
+/// The profile that a solution of the system over the leaves draws: each leaf with weight is
+/// played with this weight, at its shares over it, in the form in which strategies are printed.
+/// It is an equilibrium of the kind.
 ///
 /// The leaves are right covers of the players' feasible points, each of which counts as exact, and
 /// the system has at most 16,777,216 cells where no choice is made. The solution's numbers are
