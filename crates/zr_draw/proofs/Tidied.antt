@@ -38,52 +38,40 @@ use Rattle.zr_draw.proofs.Columns.{solves_complete}
 use Rattle.zr_draw.proofs.Raw.{over_feasible}
 use Rattle.zr_draw.proofs.Short.{few_parts}
 
--- the tidy forms of what the first n players' leaves draw, with no more parts
+-- the tidy forms of what the first n players' leaves draw
 pub record AreTidied (game : GameOf) (leaves : LeavesOf) (x : Unknown → ℤ) (n : ℕ)
     (mixtures : List MixtureOf) : Type 0 where
   pub len : length mixtures ≡ n
   pub each : (i : ℕ) (m : MixtureOf) → slice_get mixtures i ≡ Some m
       → IsTidied (drawn_strategy game leaves x i) m
-  pub few : (i : ℕ) (m : MixtureOf) → slice_get mixtures i ≡ Some m
-      → length m.parts ≤ length (drawn_strategy game leaves x i)
 
 pub none_tidied : (game : GameOf) (leaves : LeavesOf) (x : Unknown → ℤ)
     → AreTidied game leaves x 0 []
-none_tidied game leaves x = record {
-  len = refl;
-  each = λ i m at. absurd cc;
-  few = λ i m at. absurd cc;
+none_tidied game leaves x = record { len = refl; each = λ i m at. absurd cc }
+
+pub one_more : (game : GameOf) (leaves : LeavesOf) (x : Unknown → ℤ) (n : ℕ)
+    (mixtures : List MixtureOf) (m : MixtureOf) → AreTidied game leaves x n mixtures
+    → IsTidied (drawn_strategy game leaves x n) m
+    → AreTidied game leaves x (n + 1) (mixtures ++ (m ∷ []))
+one_more game leaves x n mixtures m all one = record {
+  len = let l = length-append mixtures (m ∷ []) in let k = all.len in omega (arith, l, k);
+  each = λ i own at. ⊎_elim (λ (h : i < length mixtures). all.each i own
+      (sym (get_left mixtures (m ∷ []) i h) ∙ at))
+      (λ (h : length mixtures ≤ i). last i own at h) (cases_lt i (length mixtures));
 }
-
-module _ (game : GameOf) (leaves : LeavesOf) (x : Unknown → ℤ) (n : ℕ)
-    (mixtures : List MixtureOf) (m : MixtureOf) (all : AreTidied game leaves x n mixtures) where
-  -- what holds of each, and of one more at the end
-  joined : (P : ℕ → MixtureOf → Type 0)
-      → ((i : ℕ) (own : MixtureOf) → slice_get mixtures i ≡ Some own → P i own) → P n m
-      → (i : ℕ) (own : MixtureOf) → slice_get (mixtures ++ (m ∷ [])) i ≡ Some own → P i own
-  joined P each one i own at =
-      ⊎_elim (λ (h : i < length mixtures). each i own (sym (get_left mixtures (m ∷ []) i h) ∙ at))
-      (λ (h : length mixtures ≤ i). last h) (cases_lt i (length mixtures))
-    where
-      last : length mixtures ≤ i → P i own
-      last h =
-          let b = slice_get_within (mixtures ++ (m ∷ [])) i own at in
-          let l = length-append mixtures (m ∷ []) in
-          let k = all.len in
-          let e : i ≡ n = omega (arith, h, b, l, k) in
-          let p : length mixtures + 0 ≡ i = omega (arith, h, b, l) in
-          let s : m ≡ own = same_Some m own (sym (get_right mixtures (m ∷ []) 0)
-          ∙ (ap (slice_get (mixtures ++ (m ∷ []))) p ∙ at)) in
-          subst (λ (k : ℕ). P k own) (sym e) (subst (P n) s one)
-
-  pub one_more : IsTidied (drawn_strategy game leaves x n) m
-      → length m.parts ≤ length (drawn_strategy game leaves x n)
-      → AreTidied game leaves x (n + 1) (mixtures ++ (m ∷ []))
-  one_more tidied few = record {
-    len = let l = length-append mixtures (m ∷ []) in let k = all.len in omega (arith, l, k);
-    each = joined (λ i own. IsTidied (drawn_strategy game leaves x i) own) all.each tidied;
-    few = joined (λ i own. length own.parts ≤ length (drawn_strategy game leaves x i)) all.few few;
-  }
+  where
+    last : (i : ℕ) (own : MixtureOf) → slice_get (mixtures ++ (m ∷ [])) i ≡ Some own
+        → length mixtures ≤ i → IsTidied (drawn_strategy game leaves x i) own
+    last i own at h =
+        let b = slice_get_within (mixtures ++ (m ∷ [])) i own at in
+        let l = length-append mixtures (m ∷ []) in
+        let k = all.len in
+        let e : i ≡ n = omega (arith, h, b, l, k) in
+        let p : length mixtures + 0 ≡ i = omega (arith, h, b, l) in
+        let s : m ≡ own = same_Some m own (sym (get_right mixtures (m ∷ []) 0)
+        ∙ (ap (slice_get (mixtures ++ (m ∷ []))) p ∙ at)) in
+        subst (λ (k : ℕ). IsTidied (drawn_strategy game leaves x k) own) (sym e)
+        (subst (IsTidied (drawn_strategy game leaves x n)) s one)
 
 pub all_tidied : (game : GameOf) (leaves : LeavesOf) (x : Unknown → ℤ) (mixtures : List MixtureOf)
     (n : ℕ) → n ≡ length game → AreTidied game leaves x n mixtures
@@ -214,6 +202,6 @@ pub are_few : (game : GameOf) (leaves : LeavesOf) (x : Unknown → ℤ) (mixture
     → All (λ m. length m.parts ≤ most) mixtures
 are_few game leaves x mixtures tidied most cells k d below =
     let n = tidied.len in
-    let f = tidied.few k (get_or mixtures k d) (slice_get-get_or mixtures k d below) in
+    let f = (tidied.each k (get_or mixtures k d) (slice_get-get_or mixtures k d below)).few in
     let p = few_parts game leaves x k most (omega (arith, below, n)) cells in
     omega (arith, f, p)

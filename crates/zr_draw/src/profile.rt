@@ -33,23 +33,14 @@ fn strategy_of(
     requires player { i < length (game_of game.now) }
     requires parts { AreParts (drawn_strategy (game_of game.now) (leaves_of leaves.now)
         (numbers_of (game_of game.now) (leaves_of leaves.now) x.now) i) }
-    ensures tidied { IfOk result (λ strategy. IsTidied (drawn_strategy (game_of game.now)
+    ensures { IfOk result (λ strategy. IsTidied (drawn_strategy (game_of game.now)
         (leaves_of leaves.now) (numbers_of (game_of game.now) (leaves_of leaves.now) x.now) i)
         (mixture_of strategy)) }
-    ensures few { IfOk result (λ strategy. length strategy.parts.items
-        ≤ length (drawn_strategy (game_of game.now) (leaves_of leaves.now)
-        (numbers_of (game_of game.now) (leaves_of leaves.now) x.now) i)) }
 {
     let Ok(parts) = drawn_parts(alloc, game, leaves, x, i) else {
         return Err(NoMemory);
     };
-    let Ok(strategy) = tidy(alloc, &parts) else {
-        return Err(NoMemory);
-    };
-    if strategy.parts.len() > parts.len() {
-        return Err(NoMemory);
-    }
-    Ok(strategy)
+    tidy(alloc, &parts)
 }
 
 /// The profile that a solution of the system over the leaves draws: each leaf with weight is

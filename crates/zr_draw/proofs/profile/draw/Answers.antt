@@ -1,7 +1,6 @@
 use Rattle.std.proofs.Common.{◌≡◌, ◌<◌, arith, [], ◌∷◌, length, map}
-use Rattle.std.proofs.lemmas.List.{length-map, map-append}
+use Rattle.std.proofs.lemmas.List.{map-append}
 use Rattle.zr_game.specs.Games.{game_of}
-use Rattle.zr_mix.specs.Mixtures.{part_of}
 use Rattle.zr_cert.specs.Certs.{mixture_of}
 use Rattle.zr_comp.proofs.Few.{few_columns}
 use Rattle.zr_system.specs.Regions.{leaves_of}
@@ -36,11 +35,9 @@ loop-i-preserved c =
     let leaves = leaves_of c.args.leaves.now in
     let old = c.loop-i.strategies.items in
     let new = c.in-Ok.strategy in
-    let l = length-map new.parts.items part_of in
-    let f = c.in-Ok.ensures.few in
     rw c.in-Ok-push.ensures.items (rw (map-append mixture_of old (new ∷ []))
     (one_more game leaves (numbers_of game leaves c.args.x.now) c.loop-i.i (map mixture_of old)
-    (mixture_of new) c.loop-i.invariant c.in-Ok.ensures.tidied (omega (arith, l, f))))
+    (mixture_of new) c.loop-i.invariant c.in-Ok.ensures))
 
 pub returns-clause-drawn : goal.returns-clause-drawn
 returns-clause-drawn c =
