@@ -78,6 +78,16 @@ def quotient(ours, theirs):
     return f"{ours / theirs:.2f}" if ours is not None and theirs else "-"
 
 
+def while_answered(sizes, measured):
+    """Measures size by size, up to the first size of which no game has an answer, that included.
+
+    `measured` tells of a size's games whether each has an answer.
+    """
+    for size in sizes:
+        if not any(measured(size)):
+            return
+
+
 class Table:
     """A table in Markdown whose rows are printed as they come."""
 
@@ -149,10 +159,17 @@ class Bench:
         """Solves game.json; where there is an answer it is in game.cert."""
         done = self.median([self.zero, "solve", "game.json", "--kind", kind], times)
         if done.status:
-            return Solved(word_of(done), done.seconds, [])
+            return Solved(self.stop_of(done), done.seconds, [])
         self.write("game.cert", done.out)
         lines = done.out.split("\n")
         return Solved(lines[2].split(" ")[1], done.seconds, lines)
+
+    def stop_of(self, done):
+        """The word for a run of the program; a status that isn't foreseen differs."""
+        word = word_of(done)
+        if word.startswith("status"):
+            self.differs(f"{word} {done.err.strip()[:60]}")
+        return word
 
     def check(self, kind, solved, times=None):
         """The seconds of `check` on game.cert, which must accept it."""

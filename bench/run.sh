@@ -5,10 +5,11 @@
 #   ZERO=PATH bench/run.sh    this program
 #
 # LIMIT is the longest run in processor seconds (20), TIMES the number of runs of which a median is
-# taken (3). SEEDS is the number of games of a size, where missing that of each script. All games,
-# sizes and seeds stand at the head of the scripts. The peers are Debian's glpk-utils, qsopt-ex and
-# lrslib, and a plain trial that rustc builds; one that isn't there is left out. What is printed is
-# kept in bench/out/. The exit status is 1 where an answer differs from a peer's.
+# taken (3). SEEDS is the number of games of a size, where missing that of each script; so
+# LIMIT=5 TIMES=1 SEEDS=2 makes a short run. All games, sizes and seeds stand at the head of the
+# scripts. The peers are Debian's glpk-utils, qsopt-ex and lrslib, and a plain trial that rustc
+# builds; one that isn't there is left out. What is printed is kept in bench/out/. The exit status
+# is 1 where an answer differs from a peer's, or the program ends with a status that isn't foreseen.
 set -euo pipefail
 [ -z "${ZERO:-}" ] || ZERO=$(realpath "$ZERO")
 cd "$(dirname "$0")/.."

@@ -124,7 +124,7 @@ def measure(bench, peers, table, size, seed, parts):
     bench.write("zero.cert", certificate_at_zero(len(aim)))
     bench.write("game.lp", lp_text(aim, rows, binary))
     done = bench.median([bench.zero, "best", "game.json", "zero.cert"])
-    word = word_of(done)
+    word = bench.stop_of(done)
     value = None if word else least_of(done.out)
     cells = []
     for name, theirs, their_value, exact in beside(bench, peers, binary):

@@ -16,7 +16,7 @@ from compare_made import profile_of
 from equilibria import means_of, slope_of
 from exact import Draws, dot
 from make_cert import Player
-from measure import Bench, Table, machine, shown, word_of
+from measure import Bench, Table, machine, shown, while_answered, word_of
 
 SIZES = range(2, 9)
 
@@ -65,6 +65,7 @@ def equilibria_found(text):
 
 
 def measure(bench, nash, table, size, seed):
+    """Measures a game; true where the program has an answer."""
     first, second = matrices(size, seed)
     players = game_of(first, second)
     bench.write_game(players)
@@ -85,6 +86,7 @@ def measure(bench, nash, table, size, seed):
         by = bench.ratio_beside("first equilibrium beside lrsnash's all", name, solved, "lrsnash",
                                 done)
     table.row(size, seed, solved.word, shown(solved.seconds), theirs, count, by)
+    return bool(solved.lines)
 
 
 def main():
@@ -92,9 +94,8 @@ def main():
     print(machine())
     nash = bench.peer("lrsnash", "lrslib")
     table = Table(size=4, seed=4, verdict=9, zero=9, lrsnash=9, equilibria=10, ratio=9)
-    for size in SIZES:
-        for seed in range(bench.words.seeds):
-            measure(bench, nash, table, size, seed)
+    while_answered(SIZES, lambda size: [measure(bench, nash, table, size, seed)
+                                        for seed in range(bench.words.seeds)])
     bench.finish()
 
 

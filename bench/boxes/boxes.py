@@ -16,9 +16,9 @@ from itertools import product
 
 sys.path.insert(0, os.path.join(os.path.dirname(os.path.abspath(__file__)), ".."))
 from knapsacks import chase, knapsack
-from measure import HERE, Bench, Table, machine, shown, word_of
+from measure import HERE, Bench, Table, machine, shown, while_answered, word_of
 
-FAMILIES, PLAYERS, ITEMS = (knapsack, chase), (2, 3), range(4, 11)
+ITEMS = range(4, 11)
 
 
 def built_trial(bench):
@@ -52,6 +52,7 @@ def leaves_of(solved):
 
 
 def measure(bench, trial, table, family, players, items, number):
+    """Measures a game; true where the program has an answer."""
     game = family(players, items, number)
     bench.write_game(game)
     solved = bench.solve("pure")
@@ -68,6 +69,7 @@ def measure(bench, trial, table, family, players, items, number):
             bench.differs(f"{size}, number {number}: {solved.word}")
     table.row(family.__name__, players, items, number, count_profiles(game), solved.word,
               leaves_of(solved), shown(solved.seconds), theirs, by)
+    return bool(solved.lines)
 
 
 def main():
@@ -76,9 +78,10 @@ def main():
     trial = built_trial(bench)
     table = Table(family=8, players=7, items=5, number=6, profiles=12, verdict=9, leaves=9, zero=9,
                   trial=9, ratio=9)
-    for family, players, items in product(FAMILIES, PLAYERS, ITEMS):
-        for number in range(bench.words.seeds):
+    for family, players in product((knapsack, chase), (2, 3)):
+        while_answered(ITEMS, lambda items: [
             measure(bench, trial, table, family, players, items, number)
+            for number in range(bench.words.seeds)])
     bench.finish()
 
 

@@ -22,7 +22,7 @@ from compare_made import Differs, test_profile
 from exact import Draws
 from knapsacks import chase, knapsack
 from make_cert import Player
-from measure import Bench, Table, machine, shown
+from measure import Bench, Table, machine, shown, while_answered
 
 
 def pairs(draws, own, other, name, size):
@@ -47,10 +47,10 @@ def bimatrix(count, number, choose):
     return {"format": "zero-game/2", "players": players}
 
 
-FAMILIES = [(f"choose {k}", lambda number, k=k: bimatrix(k, number, True)) for k in (2, 3, 4)]
-FAMILIES += [(f"free {k}", lambda number, k=k: bimatrix(k, number, False)) for k in (2, 3, 4)]
-FAMILIES += [(f"{made.__name__} {k}", lambda number, made=made, k=k: made(2, k, number))
-             for made in (knapsack, chase) for k in (2, 3, 4, 5)]
+FAMILIES = [("choose", (2, 3, 4), lambda count, number: bimatrix(count, number, True)),
+            ("free", (2, 3, 4), lambda count, number: bimatrix(count, number, False)),
+            ("knapsack", (2, 3, 4, 5), lambda items, number: knapsack(2, items, number)),
+            ("chase", (2, 3, 4, 5), lambda items, number: chase(2, items, number))]
 
 
 def parts_of(lines):
@@ -64,11 +64,11 @@ def test(bench, game, lines, name):
         bench.differs(f"{name}: {differs}")
 
 
-def solve_all(bench, name, made):
-    """What came of the games of a family."""
-    found = []
+def solve_all(bench, name, size, made):
+    """What came of the games of a size."""
+    found, name = [], f"{name} {size}"
     for number in range(bench.words.seeds):
-        game = made(number)
+        game = made(size, number)
         bench.write_game(game)
         solved = bench.solve("mixed", times=1)
         found.append(solved)
@@ -88,16 +88,22 @@ def counts(words):
     return ", ".join(f"{words.count(w)} {w}" for w in sorted(set(words)))
 
 
+def measure(bench, table, name, size, made):
+    """Measures the games of a size and prints their row; tells which have an answer."""
+    found = solve_all(bench, name, size, made)
+    seconds = [s.seconds for s in found]
+    parts = [parts_of(s.lines) for s in found if s.lines] or [0]
+    table.row(f"{name} {size}", shown(statistics.median(seconds)), shown(max(seconds)),
+              f"{statistics.median(parts):g}", max(parts), counts([s.word for s in found]))
+    return [bool(s.lines) for s in found]
+
+
 def main():
     bench = Bench(__doc__, 10)
     print(machine())
     table = Table(family=12, median=9, greatest=9, parts=5, most_parts=10, ended=30)
-    for name, made in FAMILIES:
-        found = solve_all(bench, name, made)
-        seconds = [s.seconds for s in found]
-        parts = [parts_of(s.lines) for s in found if s.lines] or [0]
-        table.row(name, shown(statistics.median(seconds)), shown(max(seconds)),
-                  f"{statistics.median(parts):g}", max(parts), counts([s.word for s in found]))
+    for name, sizes, made in FAMILIES:
+        while_answered(sizes, lambda size: measure(bench, table, name, size, made))
     bench.finish()
 
 

@@ -13,7 +13,7 @@ import sys
 
 sys.path.insert(0, os.path.join(os.path.dirname(os.path.abspath(__file__)), ".."))
 from knapsacks import knapsack, leaders
-from measure import Bench, Table, machine, quotient, shown
+from measure import Bench, Table, machine, quotient, shown, while_answered
 
 FAMILIES = [("two players, items", range(1, 7), lambda size, number: knapsack(2, size, number)),
             ("three players, items", range(1, 5), lambda size, number: knapsack(3, size, number)),
@@ -36,22 +36,28 @@ def solve_all(bench, name, size, made):
     return seconds, words
 
 
+def measure(bench, table, medians, name, size, made):
+    """Measures the games of a size and prints their row beside the size before; gives the seconds
+    of those that have an answer."""
+    seconds, words = solve_all(bench, name, size, made)
+    before, now = medians.get(size - 1), statistics.median(seconds) if seconds else None
+    medians[size] = now
+    ended = ", ".join(f"{words.count(w)} {w}" for w in sorted(set(words)))
+    table.row(name, size, shown(now), shown(max(seconds, default=None)), quotient(now, before),
+              ended)
+    if before:
+        bench.ratio(f"growth, {name}", f"{size} beside {size - 1}", now, before,
+                    "" if now else words[0])
+    return seconds
+
+
 def main():
     bench = Bench(__doc__, 5)
     print(machine())
     table = Table(family=20, size=4, median=9, greatest=9, to_the_size_before=18, ended=30)
     for name, sizes, made in FAMILIES:
-        before = None
-        for size in sizes:
-            seconds, words = solve_all(bench, name, size, made)
-            now = statistics.median(seconds) if seconds else None
-            most = max(seconds) if seconds else None
-            ended = ", ".join(f"{words.count(w)} {w}" for w in sorted(set(words)))
-            table.row(name, size, shown(now), shown(most), quotient(now, before), ended)
-            if before:
-                bench.ratio(f"growth, {name}", f"{size} beside {size - 1}", now, before,
-                            "" if now else words[0])
-            before = now
+        medians = {}
+        while_answered(sizes, lambda size: measure(bench, table, medians, name, size, made))
     bench.finish()
 
 
