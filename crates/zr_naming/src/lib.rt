@@ -1,0 +1,9 @@
+//! The points and rays that are named of a player whose cover is loose.
+#![tactic(auto)]
+
+mod items;
+mod stop;
+
+pub use items::named_items;
+pub use stop::NamingStop;
+pub use zr_asked::{Asked, AskedLp, Move};
