@@ -1,0 +1,12 @@
+mod Averages
+mod Coprime
+mod Leasts
+mod Rays
+mod Asking
+mod Forms
+mod Narrow
+mod Bounding
+mod Working
+mod Stopping
+mod MeansLists
+mod MeansSteps
