@@ -1,0 +1,14 @@
+//! The decision of a game: a certificate, or the cause of the stop.
+#![tactic(auto)]
+
+mod boxes;
+mod certificate;
+mod covers;
+mod decision;
+mod stop;
+mod system;
+
+pub use decision::decide;
+pub use stop::DecideStop;
+pub use zr_asked::{Asked, AskedLp};
+pub use zr_cert::{Cert, Verdict};
