@@ -12,3 +12,6 @@ pub use laws::law_of_least;
 pub use players::bounds;
 pub use stop::CostStop;
 pub use zr_cert::Bound;
+
+#[cfg(test)]
+mod tests;
