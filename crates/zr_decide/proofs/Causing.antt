@@ -13,7 +13,7 @@ use Rattle.zr_decide.specs.declared.stop.DecideStop.TheVariants as AStop
 use Rattle.zr_decide.specs.Causes.{IsDecideCause}
 use Rattle.zr_decide.specs.Coverings.{IsCoverStop}
 use Rattle.zr_decide.specs.Decided.{AreDecidedCovers, decided_leaves}
-use Rattle.zr_decide.specs.Later.{IsLaterCause, IsSearchStop, IsSizeStop, LaterWork, SpendsLaterWork}
+use Rattle.zr_decide.specs.Later.{IsBoundsStop, IsLaterCause, IsSearchStop, IsSizeStop, LaterWork, SpendsLaterWork}
 use Rattle.zr_decide.specs.Works.{AreCaseUnits, DecideWork, HasMoreDecideWork, SpendsDecideWork}
 use Rattle.zr_decide.proofs.Working.{all_work, loose, loose_open, loose_units, more_left, no_work}
 
@@ -118,7 +118,7 @@ module _ (game : GameOf) (kind : Kind) where
         ),
       )
   later_cause old mid new a (AStop.Wide asked) h = h
-  later_cause old mid new a (AStop.Step wide) h = absurd h
+  later_cause old mid new a (AStop.Step wide) h = h
   later_cause old mid new a (AStop.Endless k var dir named) h = h
   later_cause old mid new a (AStop.TooLarge cells) h = h
   later_cause old mid new a AStop.NoMemory h = tt
@@ -163,7 +163,7 @@ module _ (game : GameOf) (kind : Kind) where
             omega (arith, z, m),
           ),
         )
-    search_cause (AStop.Wide asked) h = inr (trees, decided, h)
+    search_cause (AStop.Wide asked) h = inr (inl (trees, decided, h))
     search_cause (AStop.Step wide) h = absurd h
     search_cause (AStop.Endless k var dir named) h = absurd h
     search_cause (AStop.TooLarge cells) h = absurd h
@@ -189,3 +189,47 @@ module _ (game : GameOf) (kind : Kind) where
           (inr (trees, decided, h.work, refl));
       units_are = (let z = loose_units game in let u = h.units_are in omega (arith, z, u));
     }
+
+  -- ---- bounds
+
+  module _ (trees : List TreeOf) (decided : AreDecidedCovers game trees) (old mid new : Purse)
+      (a : SpendsCases game (decided_leaves game trees) kind old mid) where
+    pub with_bounds : SpendsBestWork game mid new → SpendsLaterWork game kind old new
+    with_bounds b = record {
+      limit = b.limit ∙ a.limit;
+      cuts = b.cuts ∙ a.cuts;
+      pivots = (let p = a.pivots in let q = b.pivots in omega (arith, p, q));
+      branches = (let p = a.branches in let q = b.branches in omega (arith, p, q));
+      work = record {
+        cases = case_units (decided_leaves game trees) a.work.tree;
+        cases_are = inr (trees, decided, a.work, refl);
+        bounds = b.trees;
+        bounds_are = b.open_are;
+      };
+      units_are = (let p = a.units_are in let q = b.units_are in omega (arith, p, q));
+    }
+
+    bounds_cause : (stop : DecideStop) → IsBoundsStop game kind mid new stop
+        → IsLaterCause game kind old new stop
+    bounds_cause AStop.Spent h =
+        let l = a.limit in
+        let c = a.cuts in
+        let u = a.units_are in
+        let m = h.1.2 in
+        let work : LaterWork game kind = record {
+          cases = case_units (decided_leaves game trees) a.work.tree;
+          cases_are = inr (trees, decided, a.work, refl);
+          bounds = h.1.0;
+          bounds_are = h.1.1;
+        } in
+        (h.0, (work, omega (arith, m, l, c, u)))
+    bounds_cause (AStop.Wide asked) h = inr (inr h)
+    bounds_cause (AStop.Step wide) h = h
+    bounds_cause (AStop.Endless k var dir named) h = inr h
+    bounds_cause (AStop.TooLarge cells) h = absurd h
+    bounds_cause AStop.NoMemory h = tt
+
+    pub bounds_causes : {A : Type 0} → (r : Result A DecideStop)
+        → IfErr r (IsBoundsStop game kind mid new) → IfErr r (IsLaterCause game kind old new)
+    bounds_causes (Ok x) h = tt
+    bounds_causes (Err stop) h = bounds_cause stop h

@@ -1,5 +1,5 @@
 -- The decision over the leaves of covers.
-use Rattle.std.proofs.Common.{◌≡◌, ℕ, ◌+◌, ◌*◌, ◌<◌, ◌≤◌, arith, sym, ap, subst, ◌∙◌, Option, Some, All, List, [], length, map}
+use Rattle.std.proofs.Common.{◌≡◌, ℕ, ◌+◌, ◌*◌, ◌<◌, ◌≤◌, arith, sym, ap, subst, ◌∙◌, Option, Some, None, Result, IfErr, All, List, [], length, map}
 use Rattle.std.specs.Global.{Vec}
 use Rattle.std.proofs.lemmas.List.{length-map}
 use Rattle.zr_base.specs.Points.{PointOf}
@@ -28,8 +28,10 @@ use Rattle.zr_decide.specs.declared.stop.DecideStop.{DecideStop}
 use Rattle.zr_decide.specs.Causes.{IsOpenBySystem}
 use Rattle.zr_decide.specs.Coverings.{AreCoversTo, IsFirstOpen}
 use Rattle.zr_decide.specs.Decided.{AreDecidedCovers, decided_leaves, no_names}
-use Rattle.zr_decide.specs.Later.{IsLaterCause, IsSearchStop, IsSizeStop, SpendsLaterWork}
-use Rattle.zr_decide.proofs.Causing.{search_cause, search_spends, size_cause}
+use Rattle.zr_best.specs.Works.{SpendsBestWork}
+use Rattle.zr_decide.specs.Equilibria.{AreSettledLeaves}
+use Rattle.zr_decide.specs.Later.{IsBoundsStop, IsLaterCause, IsSearchStop, IsSizeStop, SpendsLaterWork}
+use Rattle.zr_decide.proofs.Causing.{bounds_causes, search_cause, search_spends, size_cause, with_bounds}
 use Rattle.zr_decide.proofs.Refuting.{cover_few, cover_form, cover_right, decided_covers, names_are}
 use Rattle.zr_decide.proofs.Rights.{have_few_slots, name_nothing}
 
@@ -62,6 +64,25 @@ module _ (game : GameOf) (kind : Kind) (covers : List Tree) (ray : Option WholeR
     pub unnamed : (i : ℕ) → named_at leaves i ≡ []
     unnamed i = name_nothing game c.trees leaves same i
 
+    pub settled_leaves : ray ≡ None → AreSettledLeaves game leaves
+    settled_leaves e = record {
+      trees = c.trees;
+      covers = decided;
+      settled = subst (IsFirstOpen game c.trees) e c.open_is;
+      same = same;
+    }
+
+    module _ (old mid new : Purse) (h : SpendsCases game leaves kind old mid) where
+      spent : SpendsCases game (decided_leaves game c.trees) kind old mid
+      spent = subst (λ (l : LeavesOf). SpendsCases game l kind old mid) same h
+
+      pub bounds_stops : {A : Type 0} → (r : Result A DecideStop)
+          → IfErr r (IsBoundsStop game kind mid new) → IfErr r (IsLaterCause game kind old new)
+      bounds_stops r b = bounds_causes game kind c.trees decided old mid new spent r b
+
+      pub spends_bounds : SpendsBestWork game mid new → SpendsLaterWork game kind old new
+      spends_bounds b = with_bounds game kind c.trees decided old mid new spent b
+
     module _ (old new : Purse) where
       pub search_stop : (stop : DecideStop) → IsSearchStop game leaves kind old new stop
           → IsLaterCause game kind old new stop
@@ -76,7 +97,7 @@ module _ (game : GameOf) (kind : Kind) (covers : List Tree) (ray : Option WholeR
 
       module _ (named : List (Vec Named)) (len : length named ≡ length game)
           (empty : All (λ list. list.items ≡ []) named) where
-        names : map named_list named ≡ no_names game
+        pub names : map named_list named ≡ no_names game
         names = names_are game named len empty
 
         module _ (proof : Refutation) (h : IsFound game leaves kind old new (Refuted proof)) where

@@ -6,3 +6,4 @@ mod Causing
 mod Refuting
 mod Rights
 mod Deciding
+mod Drawing

@@ -19,6 +19,7 @@ use Rattle.zr_system.specs.System.{cell_count}
 use Rattle.zr_decide.specs.declared.stop.DecideStop.{DecideStop}
 use Rattle.zr_decide.specs.declared.stop.DecideStop.TheVariants as AStop
 use Rattle.zr_decide.specs.Decided.{AreDecidedCovers, IsWholeRay, decided_leaves, no_names}
+use Rattle.zr_decide.specs.Equilibria.{IsOpenByClaim, IsStuckClaim, IsWideClaim}
 use Rattle.zr_decide.specs.Works.{HasMoreDecideWork}
 
 -- the system of a game with more cells isn't built
@@ -64,15 +65,18 @@ IsTooLarge game cells =
     × (cells ≡ min (cell_count game (decided_leaves game trees)) (2 ^ 128 - 1))
     × (cell_limit < cells)
 
--- the purse is at its limit, and there is more work than it had left; a question is stuck; the
--- system has a solution over leaves one of which is loose; or it has too many cells
+-- the purse is at its limit, and there is more work than it had left; a question is stuck; a step of
+-- the costs in a drawn equilibrium is too wide; the system has a solution over leaves one of which
+-- is loose, or it is open what a player pays at least against a drawn equilibrium; or the system has
+-- too many cells
 abbrev pub IsDecideCause : GameOf → Kind → Purse → Purse → DecideStop → Type 0
 IsDecideCause game kind old new AStop.Spent =
     (counted new ≡ new.limit) × HasMoreDecideWork game kind old
 IsDecideCause game kind old new (AStop.Wide asked) =
-    IsStuckCover game asked ⊎ IsStuckChoice game kind asked
-IsDecideCause game kind old new (AStop.Step wide) = ⊥
+    IsStuckCover game asked ⊎ (IsStuckChoice game kind asked ⊎ IsStuckClaim game kind asked)
+IsDecideCause game kind old new (AStop.Step wide) = IsWideClaim game kind wide
 IsDecideCause game kind old new (AStop.Endless i var dir named) =
     IsOpenBySystem game kind i var dir.items (map named_list named.items)
+    ⊎ IsOpenByClaim game kind i var dir.items (map named_list named.items)
 IsDecideCause game kind old new (AStop.TooLarge cells) = IsTooLarge game cells
 IsDecideCause game kind old new AStop.NoMemory = Unit {0}

@@ -5,7 +5,7 @@ use Rattle.zr_io.specs.Purses.{counted}
 use Rattle.zr_game.specs.Players.{GameOf}
 use Rattle.zr_game.specs.declared.kind.Kind.{Kind}
 use Rattle.zr_tree.specs.Trees.{TreeOf}
-use Rattle.zr_best.specs.Works.{AreOpenTrees, all_units}
+use Rattle.zr_best.specs.Works.{all_units, AreOpenTrees, HasMoreBestWork}
 use Rattle.zr_cert.specs.Certs.{named_list}
 use Rattle.zr_comp.specs.Causes.{HasMoreCases, IsStuckCase}
 use Rattle.zr_system.specs.Regions.{LeavesOf}
@@ -15,6 +15,11 @@ use Rattle.zr_decide.specs.declared.stop.DecideStop.TheVariants as AStop
 use Rattle.zr_decide.specs.Causes.{IsOpenBySystem, IsStuckChoice, IsStuckCover, IsTooLarge, cell_limit}
 use Rattle.zr_decide.specs.Decided.{decided_leaves}
 use Rattle.zr_decide.specs.Works.{AreCaseUnits}
+use Rattle.std.specs.Global.{Vec}
+use Rattle.zr_game.specs.declared.named.Named.{Named}
+use Rattle.zr_costs.specs.declared.stop.CostStop.{CostStop}
+use Rattle.zr_costs.specs.declared.stop.CostStop.TheVariants as ACost
+use Rattle.zr_decide.specs.Equilibria.{IsOpenByClaim, IsStuckClaim, IsWideClaim}
 
 -- the work that is left then: that of cases, and that of the bounds
 pub record LaterWork (game : GameOf) (kind : Kind) : Type 0 where
@@ -41,10 +46,11 @@ abbrev pub IsLaterCause : GameOf → Kind → Purse → Purse → DecideStop →
 IsLaterCause game kind old new AStop.Spent =
     (counted new ≡ new.limit) × HasMoreLaterWork game kind old
 IsLaterCause game kind old new (AStop.Wide asked) =
-    IsStuckCover game asked ⊎ IsStuckChoice game kind asked
-IsLaterCause game kind old new (AStop.Step wide) = ⊥
+    IsStuckCover game asked ⊎ (IsStuckChoice game kind asked ⊎ IsStuckClaim game kind asked)
+IsLaterCause game kind old new (AStop.Step wide) = IsWideClaim game kind wide
 IsLaterCause game kind old new (AStop.Endless i var dir named) =
     IsOpenBySystem game kind i var dir.items (map named_list named.items)
+    ⊎ IsOpenByClaim game kind i var dir.items (map named_list named.items)
 IsLaterCause game kind old new (AStop.TooLarge cells) = IsTooLarge game cells
 IsLaterCause game kind old new AStop.NoMemory = Unit {0}
 
@@ -69,3 +75,22 @@ IsSearchStop game leaves kind old new (AStop.Step wide) = ⊥
 IsSearchStop game leaves kind old new (AStop.Endless i var dir named) = ⊥
 IsSearchStop game leaves kind old new (AStop.TooLarge cells) = ⊥
 IsSearchStop game leaves kind old new AStop.NoMemory = Unit {0}
+
+-- why the bounds in a drawn equilibrium can't be had
+abbrev pub IsBoundsStop : GameOf → Kind → Purse → Purse → DecideStop → Type 0
+IsBoundsStop game kind old new AStop.Spent =
+    (counted new ≡ new.limit) × HasMoreBestWork game old
+IsBoundsStop game kind old new (AStop.Wide asked) = IsStuckClaim game kind asked
+IsBoundsStop game kind old new (AStop.Step wide) = IsWideClaim game kind wide
+IsBoundsStop game kind old new (AStop.Endless i var dir named) =
+    IsOpenByClaim game kind i var dir.items (map named_list named.items)
+IsBoundsStop game kind old new (AStop.TooLarge cells) = ⊥
+IsBoundsStop game kind old new AStop.NoMemory = Unit {0}
+
+-- the stop of a decision whose bounds stopped so
+abbrev pub stop_with : Vec (Vec Named) → CostStop → DecideStop
+stop_with named ACost.Spent = AStop.Spent
+stop_with named (ACost.Wide asked) = AStop.Wide asked
+stop_with named (ACost.Step wide) = AStop.Step wide
+stop_with named (ACost.Endless i var dir) = AStop.Endless i var dir named
+stop_with named ACost.NoMemory = AStop.NoMemory

@@ -12,6 +12,7 @@ ghost use Rattle.zr_decide.specs.Works.{SpendsDecideWork};
 use crate::boxes::box_tree;
 use crate::certificate::certificate;
 use crate::covers::{Covering, Covers, covers_of};
+use crate::solution::equilibrium;
 use crate::stop::DecideStop;
 use crate::system::{leaves_of, no_names, solve};
 use std::alloc::Global;
@@ -128,14 +129,14 @@ fn decide_over(
             };
             Ok(certificate(game, kind, verdict))
         }
-        Ok(Found::Solved(_x)) => match ray {
+        Ok(Found::Solved(x)) => match ray {
             Some(ray) => Err(DecideStop::Endless {
                 player: ray.player,
                 var: ray.var,
                 dir: ray.dir,
                 named,
             }),
-            None => Err(DecideStop::NoMemory),
+            None => equilibrium(alloc, game, kind, &leaves, named, &x, purse),
         },
     }
 }

@@ -1,4 +1,4 @@
-use Rattle.std.proofs.Common.{◌≡◌, ◌∙◌, arith, ap, sym, subst, All, List, [], length, map}
+use Rattle.std.proofs.Common.{◌≡◌, ◌∙◌, arith, ap, sym, subst, inl, All, List, [], length, map}
 use Rattle.std.specs.Global.{Vec}
 use Rattle.std.proofs.lemmas.List.{length-map}
 use Rattle.zr_game.specs.Games.{game_of}
@@ -9,7 +9,8 @@ use Rattle.zr_cert.specs.Certs.{CoverVerdict, cases_of, named_list, nodes_of}
 use Rattle.zr_comp.specs.Answers.{IsFound}
 use Rattle.zr_system.specs.Regions.{leaves_of}
 use Rattle.zr_decide.proofs.Causing.{nothing_spent}
-use Rattle.zr_decide.proofs.Deciding.{cover_count, open_by, refuted_few, refuted_form, refuted_right, search_stop, size_stop, slots, spends_later, unnamed}
+use Rattle.zr_decide.proofs.Deciding.{bounds_stops, cover_count, open_by, refuted_few, refuted_form, refuted_right, search_stop, settled_leaves, size_stop, slots, spends_bounds, spends_later, unnamed}
+use Rattle.zr_decide.proofs.Refuting.{names_are}
 use Rattle.zr_decide.proofs.Rights.{right_cert}
 use Rattle.zr_decide.proofs.decision.decide_over.Goals as goal
 
@@ -130,16 +131,16 @@ returns-in-Ok-Refuted-clause-spends c =
 pub returns-in-Some-clause-cause : goal.returns-in-Some-clause-cause
 returns-in-Some-clause-cause c =
     let m = length-map c.args.game.now.players.items player_of in
-    open_by (game_of c.args.game.now) c.args.kind c.args.covers.trees.items c.args.covers.ray
+    inl (open_by (game_of c.args.game.now) c.args.kind c.args.covers.trees.items c.args.covers.ray
     c.requires.covers (leaves_of c.in-Ok-leaves_of.leaves)
     (λ trees e. c.in-Ok-leaves_of.ensures.content trees
     (e ∙ ap (λ (xs : List Tree). map nodes_of xs) (sym c.deref.ensures.value)))
     c.args.purse.now c.solve.new.purse c.in-Ok.named.items
     (omega (arith, c.in-Ok.ensures.len, c.len.ensures, c.args.game.now.players.ok.0, m))
-    c.in-Ok.ensures.empty c.in-Ok-Solved._x
+    c.in-Ok.ensures.empty c.in-Ok-Solved.x
     (subst (IsFound (game_of c.args.game.now) (leaves_of c.in-Ok-leaves_of.leaves) c.args.kind
     c.args.purse.now c.solve.new.purse) c.in-Ok-Solved.field-0-is c.in-Ok-Solved.ensures.found)
-    c.in-Some.ray c.in-Some.is
+    c.in-Some.ray c.in-Some.is)
 
 pub returns-in-Some-clause-spends : goal.returns-in-Some-clause-spends
 returns-in-Some-clause-spends c =
@@ -149,10 +150,46 @@ returns-in-Some-clause-spends c =
     (e ∙ ap (λ (xs : List Tree). map nodes_of xs) (sym c.deref.ensures.value)))
     c.args.purse.now c.solve.new.purse c.in-Ok-Solved.ensures.spends
 
-pub returns-clause-spends : goal.returns-clause-spends
-returns-clause-spends c =
-    spends_later (game_of c.args.game.now) c.args.kind c.args.covers.trees.items c.args.covers.ray
+pub equilibrium-requires-clause-covers : goal.equilibrium-requires-clause-covers
+equilibrium-requires-clause-covers c =
+    settled_leaves (game_of c.args.game.now) c.args.kind c.args.covers.trees.items c.args.covers.ray
     c.requires.covers (leaves_of c.in-Ok-leaves_of.leaves)
     (λ trees e. c.in-Ok-leaves_of.ensures.content trees
     (e ∙ ap (λ (xs : List Tree). map nodes_of xs) (sym c.deref.ensures.value)))
-    c.args.purse.now c.solve.new.purse c.in-Ok-Solved.ensures.spends
+    c.in-None.is
+
+pub equilibrium-requires-clause-solution : goal.equilibrium-requires-clause-solution
+equilibrium-requires-clause-solution c =
+    subst (IsFound (game_of c.args.game.now) (leaves_of c.in-Ok-leaves_of.leaves) c.args.kind
+    c.args.purse.now c.solve.new.purse) c.in-Ok-Solved.field-0-is c.in-Ok-Solved.ensures.found
+
+pub equilibrium-requires-clause-named : goal.equilibrium-requires-clause-named
+equilibrium-requires-clause-named c =
+    let m = length-map c.args.game.now.players.items player_of in
+    names_are (game_of c.args.game.now) c.in-Ok.named.items
+    (omega (arith, c.in-Ok.ensures.len, c.len.ensures, c.args.game.now.players.ok.0, m))
+    c.in-Ok.ensures.empty
+
+pub equilibrium-requires-clause-limit : goal.equilibrium-requires-clause-limit
+equilibrium-requires-clause-limit c =
+    let same = c.in-Ok-Solved.ensures.spends.limit in
+    let limit = c.requires.limit in
+    omega (arith, same, limit)
+
+pub returns-clause-cause : goal.returns-clause-cause
+returns-clause-cause c =
+    bounds_stops (game_of c.args.game.now) c.args.kind c.args.covers.trees.items c.args.covers.ray
+    c.requires.covers (leaves_of c.in-Ok-leaves_of.leaves)
+    (λ trees e. c.in-Ok-leaves_of.ensures.content trees
+    (e ∙ ap (λ (xs : List Tree). map nodes_of xs) (sym c.deref.ensures.value)))
+    c.args.purse.now c.solve.new.purse c.equilibrium.new.purse c.in-Ok-Solved.ensures.spends
+    c.equilibrium.result c.equilibrium.ensures.cause
+
+pub returns-clause-spends : goal.returns-clause-spends
+returns-clause-spends c =
+    spends_bounds (game_of c.args.game.now) c.args.kind c.args.covers.trees.items c.args.covers.ray
+    c.requires.covers (leaves_of c.in-Ok-leaves_of.leaves)
+    (λ trees e. c.in-Ok-leaves_of.ensures.content trees
+    (e ∙ ap (λ (xs : List Tree). map nodes_of xs) (sym c.deref.ensures.value)))
+    c.args.purse.now c.solve.new.purse c.equilibrium.new.purse c.in-Ok-Solved.ensures.spends
+    c.equilibrium.ensures.spends
