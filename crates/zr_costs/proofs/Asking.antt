@@ -51,7 +51,8 @@ number_narrow (x ∷ xs) zero all = All-head IsNarrow x xs all
 number_narrow (x ∷ xs) (suc v) all = number_narrow xs v (All-tail IsNarrow x xs all)
 
 -- a narrow number times 1 is no step too wide
-never_wide : (m z : ℤ) (w : Wide) → m ≡ pos 1 → IsNarrow z → cross_of (m, z) (pos 0, pos 0) ≡ Err w → ⊥
+never_wide : (m z : ℤ) (w : Wide) → m ≡ pos 1 → IsNarrow z → cross_of (m, z) (pos 0, pos 0) ≡ Err w
+    → ⊥
 never_wide m z w one h e =
     let a : m *ℤ z ≡ z = rw one (omega (arith, ints)) in
     let b : m *ℤ z -ℤ pos 0 *ℤ pos 0 ≡ z = omega (arith, ints, a) in
@@ -95,7 +96,8 @@ module _ (game : GameOf) (form : IsGame game) (profile : Profile)
   pub stuck_own : (asked : AskedLp) → IsStuckAsked i player (MayAsk player (map neg_ℤ left)) asked
       → IsStuckAsked i player (MayAskOwn i player profile) asked
   stuck_own asked h =
-      asked_also i player (MayAsk player (map neg_ℤ left)) (MayAskOwn i player profile) may_own asked h
+      asked_also i player (MayAsk player (map neg_ℤ left))
+      (MayAskOwn i player profile) may_own asked h
 
   -- no product of the aim is too wide
   pub plain_stop : (old new : Purse) (stop : BnbStop) → All IsNarrow (map neg_ℤ left)

@@ -17,12 +17,14 @@ pub exchanged : (vars : ℕ) (c : ℕ → ℤ) (parts : Strategy) (n : PointOf �
     → sum_to vars (λ v. c v *ℤ weigh parts (λ x. n x v))
     ≡ weigh parts (λ x. sum_to vars (λ v. c v *ℤ n x v))
 exchanged vars c [] n =
-    sum_to_same vars (λ v. c v *ℤ pos 0) (λ v. pos 0) (λ v h. omega (arith, ints)) ∙ sum_to_zero vars
+    sum_to_same vars (λ v. c v *ℤ pos 0) (λ v. pos 0) (λ v h. omega (arith, ints))
+    ∙ sum_to_zero vars
 exchanged vars c (part ∷ parts) n =
     sum_to_same vars (λ v. c v *ℤ (part.weight *ℤ n part.point v +ℤ weigh parts (λ x. n x v)))
     (λ v. part.weight *ℤ (c v *ℤ n part.point v) +ℤ c v *ℤ weigh parts (λ x. n x v))
     (λ v h. one_more (c v) part.weight (n part.point v) (weigh parts (λ x. n x v)))
-    ∙ sum_to-add vars (λ v. part.weight *ℤ (c v *ℤ n part.point v)) (λ v. c v *ℤ weigh parts (λ x. n x v))
+    ∙ sum_to-add vars (λ v. part.weight *ℤ (c v *ℤ n part.point v))
+    (λ v. c v *ℤ weigh parts (λ x. n x v))
     ∙ ap₂ ◌+ℤ◌ (sum_to-mul vars part.weight (λ v. c v *ℤ n part.point v)) (exchanged vars c parts n)
 
 scaled : (a b w : ℤ) → (pos 1) ≤ℤ w → a ≤ℤ b → (w *ℤ a) ≤ℤ (w *ℤ b)

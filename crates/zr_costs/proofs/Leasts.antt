@@ -91,7 +91,8 @@ both P Q (x ∷ xs) a b = ((a.0, b.0), both P Q xs a.1 b.1)
 
 -- what a part of a strategy is
 abbrev IsPartOf : PlayerOf → ℤ → Part → Type 0
-IsPartOf player d part = ((pos 1) ≤ℤ part.weight) × (IsFeasible player part.point × Shares d part.point)
+IsPartOf player d part =
+    ((pos 1) ≤ℤ part.weight) × (IsFeasible player part.point × Shares d part.point)
 
 module _ (game : GameOf) (form : IsGame game) (profile : Profile)
     (equilibrium : IsEquilibrium game profile) (i : ℕ) (player : PlayerOf)
@@ -181,12 +182,14 @@ module _ (game : GameOf) (form : IsGame game) (profile : Profile)
       (λ j. negsuc 0 *ℤ (slice_index_or left j (pos 0) *ℤ num_of x j))
       (λ j h. ap (λ z. z *ℤ num_of x j) (numbers_turned left j)
       ∙ turned (numbers left j) (num_of x j))
-      ∙ sum_to-mul (length player.vars) (negsuc 0) (λ j. slice_index_or left j (pos 0) *ℤ num_of x j)
+      ∙ sum_to-mul (length player.vars) (negsuc 0)
+      (λ j. slice_index_or left j (pos 0) *ℤ num_of x j)
     where
       turned : (a b : ℤ) → neg_ℤ a *ℤ b ≡ negsuc 0 *ℤ (a *ℤ b)
       turned a b = neg-mul_left a b ∙ omega (arith, ints)
 
-  module _ (f : Fraction) (point : PointOf) (least : IsLeastAt player (map neg_ℤ left) f point) where
+  module _ (f : Fraction) (point : PointOf)
+      (least : IsLeastAt player (map neg_ℤ left) f point) where
     at_part : (d : ℤ) (x : PointOf) → (pos 0) <ℤ d → Shares d x
         → IsNotBelow player (map neg_ℤ left) f x → (f.num *ℤ d) ≤ℤ (value_over d x *ℤ f.den)
     at_part d x positive shares holds =
@@ -227,7 +230,8 @@ module _ (game : GameOf) (form : IsGame game) (profile : Profile)
 
     t_positive : (pos 0) <ℤ total (strategy_of profile i)
     t_positive =
-        total_positive (strategy_of profile i) (equilibrium.valid.strategies i player is).some weights
+        total_positive (strategy_of profile i) (equilibrium.valid.strategies i player is).some
+        weights
 
     summed : weigh (strategy_of profile i) (λ x. f.num *ℤ d)
         ≤ℤ weigh (strategy_of profile i) (λ x. value_over d x *ℤ f.den)
@@ -258,7 +262,8 @@ module _ (game : GameOf) (form : IsGame game) (profile : Profile)
     below =
         from_point f.num right f.den
         (sum_to (length player.vars) (λ j. slice_index_or left j (pos 0) *ℤ num_of point j))
-        (aim_value player (map neg_ℤ left) (num_of point)) point.den least.feasible.point den_positive
+        (aim_value player (map neg_ℤ left) (num_of point)) point.den least.feasible.point
+        den_positive
         (needed game form profile equilibrium i player is left right claim point least.feasible)
         (aim_is point) least.value
 

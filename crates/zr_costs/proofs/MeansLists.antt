@@ -25,9 +25,10 @@ pub start : (game : GameOf) (mixtures : List MixtureOf)
 start game mixtures = after_none (all_means game mixtures)
 
 -- a player more
-pub one_player : (game : GameOf) (mixtures : List MixtureOf) (made own : List Fraction) (p : PlayerOf)
-    (m : MixtureOf) → mean_list p m ≡ Ok own
-    → after made (all_means (p ∷ game) (m ∷ mixtures)) ≡ after (made ++ own) (all_means game mixtures)
+pub one_player : (game : GameOf) (mixtures : List MixtureOf) (made own : List Fraction)
+    (p : PlayerOf) (m : MixtureOf) → mean_list p m ≡ Ok own
+    → after made (all_means (p ∷ game) (m ∷ mixtures))
+    ≡ after (made ++ own) (all_means game mixtures)
 one_player game mixtures made own p m e =
     rw e (onward (all_means game mixtures))
   where
@@ -41,7 +42,8 @@ pub wide_player : (game : GameOf) (mixtures : List MixtureOf) (made : List Fract
     → after made (all_means (p ∷ game) (m ∷ mixtures)) ≡ Err w
 wide_player game mixtures made p m w e = rw e refl
 
-pub all_players : (made : List Fraction) (mixtures : List MixtureOf) → after made (all_means [] mixtures) ≡ Ok made
+pub all_players : (made : List Fraction) (mixtures : List MixtureOf)
+    → after made (all_means [] mixtures) ≡ Ok made
 all_players made mixtures = ap Ok (append-nil made)
 
 -- as many as there are variables
@@ -50,7 +52,8 @@ pub means_len : (game : GameOf) (mixtures : List MixtureOf) → length mixtures 
 means_len [] mixtures len list e = let s : [] ≡ list = cc in sym (ap length s)
 means_len (p ∷ ps) [] len list e = absurd (omega (arith, len))
 means_len (p ∷ ps) (m ∷ ms) len list e =
-    let s = then_ok (mean_list p m) (λ first. all_means ps ms >>= λ rest. Ok (first ++ rest)) list e in
+    let s = then_ok (mean_list p m)
+    (λ first. all_means ps ms >>= λ rest. Ok (first ++ rest)) list e in
     let t = then_ok (all_means ps ms) (λ rest. Ok (s.0 ++ rest)) list s.2 in
     let all : s.0 ++ t.0 ≡ list = (let q = t.2 in cc) in
     let own = (made_items (mean_steps m.total m.parts) 0 (length p.vars) s.0 s.1).0 in

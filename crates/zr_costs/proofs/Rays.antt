@@ -34,7 +34,8 @@ moved_at m (x ∷ xs) (y ∷ ys) (suc v) e = moved_at m xs ys v (omega arith)
 moved_value : (player : PlayerOf) (aim : List ℤ) (base : PointOf) (dir : Direction)
     → length base.num ≡ length dir → (t : ℕ)
     → aim_value player aim (num_of (moved base dir t))
-    ≡ aim_value player aim (num_of base) +ℤ (pos t *ℤ base.den) *ℤ aim_value player aim (change_of dir)
+    ≡ aim_value player aim (num_of base)
+    +ℤ (pos t *ℤ base.den) *ℤ aim_value player aim (change_of dir)
 moved_value player aim base dir len t =
     let m = pos t *ℤ base.den in
     let n = length player.vars in
@@ -42,8 +43,10 @@ moved_value player aim base dir len t =
     (λ j. numbers aim j *ℤ num_of base j +ℤ m *ℤ (numbers aim j *ℤ change_of dir j))
     (λ j h. ap (λ z. numbers aim j *ℤ z) (moved_at m base.num dir j len)
     ∙ spreads (numbers aim j) (num_of base j) m (change_of dir j))
-    ∙ sum_to-add n (λ j. numbers aim j *ℤ num_of base j) (λ j. m *ℤ (numbers aim j *ℤ change_of dir j))
-    ∙ ap (λ z. aim_value player aim (num_of base) +ℤ z) (sum_to-mul n m (λ j. numbers aim j *ℤ change_of dir j))
+    ∙ sum_to-add n (λ j. numbers aim j *ℤ num_of base j)
+    (λ j. m *ℤ (numbers aim j *ℤ change_of dir j))
+    ∙ ap (λ z. aim_value player aim (num_of base) +ℤ z)
+    (sum_to-mul n m (λ j. numbers aim j *ℤ change_of dir j))
   where
     spreads : (a x m c : ℤ) → a *ℤ (x +ℤ m *ℤ c) ≡ a *ℤ x +ℤ m *ℤ (a *ℤ c)
     spreads a x m c = simp spread (omega (arith, ints))
@@ -62,7 +65,8 @@ falls_below a b c falls h =
         times_negative : (k : ℤ) → (pos 0) ≤ℤ k → (k *ℤ b) ≤ℤ neg_ℤ k
         times_negative (pos zero) positive = omega (arith, ints)
         times_negative (pos (suc n)) positive =
-            let l = le_times b (negsuc 0) (pos (suc n)) (omega (arith, ints)) (omega (arith, ints, falls)) in
+            let l = le_times b (negsuc 0) (pos (suc n)) (omega (arith, ints))
+            (omega (arith, ints, falls)) in
             let e = *ℤ_comm b (pos (suc n)) in
             omega (arith, ints, l, e)
         times_negative (negsuc n) positive = absurd (omega (arith, ints, positive))

@@ -33,7 +33,8 @@ units_append : (ts us : List TreeOf) → all_units (ts ++ us) ≡ all_units ts +
 units_append [] us = let e : all_units us ≡ 0 + all_units us = omega arith in e
 units_append (t ∷ ts) us =
     let r = units_append ts us in
-    let e : units t + all_units (ts ++ us) ≡ units t + all_units ts + all_units us = omega (arith, r) in
+    let e : units t + all_units (ts ++ us) ≡ units t + all_units ts + all_units us =
+    omega (arith, r) in
     e
 
 -- a loose tree for each player
@@ -64,7 +65,8 @@ filled game i ts h = record {
   trees = ts ++ loose (drop i game);
   open_are = subst (λ (g : GameOf). AreOpenTrees g (ts ++ loose (drop i game)))
       (take-append-drop i game)
-      (open_append (take i game) (drop i game) ts (loose (drop i game)) h (loose_open (drop i game)));
+      (open_append (take i game) (drop i game) ts (loose (drop i game)) h
+      (loose_open (drop i game)));
   units_are = (
       let e = units_append ts (loose (drop i game)) in
       let z = loose_units (drop i game) in
@@ -104,7 +106,8 @@ module _ (game : GameOf) (i : ℕ) (player : PlayerOf) (is : IsPlayer game i pla
   with_units t = let e = units_append before.trees (t ∷ []) in omega (arith, e)
 
   -- a player more
-  pub more_work : (new : Purse) → SpendsOwnWork player mid new → SpendsBestWork (take (i + 1) game) old new
+  pub more_work : (new : Purse) → SpendsOwnWork player mid new
+      → SpendsBestWork (take (i + 1) game) old new
   more_work new own = record {
     limit = own.limit ∙ before.limit;
     cuts = own.cuts ∙ before.cuts;
@@ -123,7 +126,8 @@ module _ (game : GameOf) (i : ℕ) (player : PlayerOf) (is : IsPlayer game i pla
   -- more work for this player is more for all
   pub more_left : HasMoreOwnWork player mid → HasMoreBestWork game old
   more_left own =
-      let f = filled game (i + 1) (before.trees ++ own.0.tree ∷ []) (with_tree own.0.tree own.0.open_is) in
+      let f = filled game (i + 1) (before.trees ++ own.0.tree ∷ [])
+      (with_tree own.0.tree own.0.open_is) in
       let e = with_units own.0.tree in
       let u = f.units_are in
       let l = before.limit in
@@ -174,7 +178,8 @@ count_append : (xs ys : List BoundOf) → node_count (xs ++ ys) ≡ node_count x
 count_append [] ys = let e : node_count ys ≡ 0 + node_count ys = omega arith in e
 count_append (x ∷ xs) ys =
     let r = count_append xs ys in
-    let e : length x.tree + node_count (xs ++ ys) ≡ length x.tree + node_count xs + node_count ys = omega (arith, r) in
+    let e : length x.tree + node_count (xs ++ ys) ≡ length x.tree + node_count xs + node_count ys =
+    omega (arith, r) in
     e
 
 at_end : (xs : List BoundOf) (x : BoundOf) → slice_get (xs ++ x ∷ []) (length xs) ≡ Some x
@@ -214,7 +219,8 @@ module _ (game : GameOf) (profile : Profile) (i : ℕ) (player : PlayerOf)
           × IsRightBound other k profile b
       last e =
           let q = subst (λ n. IsPlayer game n other) e here in
-          let same = sym (get_or_from_slice_get game i player player is) ∙ get_or_from_slice_get game i other player q in
+          let same = sym (get_or_from_slice_get game i player player is)
+          ∙ get_or_from_slice_get game i other player q in
           let at = subst (λ n. slice_get (listed ++ bound_of bound ∷ []) n ≡ Some (bound_of bound))
           before.len (at_end listed (bound_of bound)) in
           subst (λ n. (b : BoundOf) × (slice_get (listed ++ bound_of bound ∷ []) n ≡ Some b)

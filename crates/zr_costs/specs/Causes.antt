@@ -48,7 +48,8 @@ pub record IsOpenOwn (i : ℕ) (player : PlayerOf) (profile : Profile) (var : �
 abbrev pub IsWideCostStep : GameOf → List MixtureOf → Wide → Type 0
 IsWideCostStep game mixtures w =
     (all_means game mixtures ≡ Err w)
-    ⊎ ((means : List Fraction) × (all_means game mixtures ≡ Ok means) × (i : ℕ) × (player : PlayerOf)
+    ⊎ ((means : List Fraction) × (all_means game mixtures ≡ Ok means) × (i : ℕ)
+    × (player : PlayerOf)
     × IsPlayer game i player × (cost_steps game player i means ≡ Err w))
 
 -- why player i has no bound

@@ -20,7 +20,7 @@ use zr_io::Purse;
 
 /// What player `i` pays at the means of all players in an equilibrium, with a tree that proves that
 /// it can't pay less.
-pub(crate) fn bound_of(
+pub(crate) fn bound_at(
     alloc: Global,
     game: &Game,
     i: u32,
@@ -69,7 +69,7 @@ fn bound_by(cost: Frac, found: LeastAnswer) -> Bound
             value: _,
             tree,
         } => Bound { cost, tree },
-        // The player has a point, and pays the least.
+        // The player has a point, and its aim falls along no ray.
         LeastAnswer::Empty { tree: _ } | LeastAnswer::Below { base: _, dir: _ } => unreachable!(),
     }
 }

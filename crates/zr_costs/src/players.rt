@@ -8,7 +8,7 @@ ghost use Rattle.zr_best.specs.Works.{SpendsBestWork};
 ghost use Rattle.zr_costs.specs.Costs.{AreRightBounds, AreStableMeans, HaveFewNodes};
 ghost use Rattle.zr_costs.specs.Causes.{IsCostCause};
 
-use crate::bound::bound_of as bound_at;
+use crate::bound::bound_at;
 use crate::means::means_of;
 use crate::stop::{CostStop, Halt};
 use std::alloc::Global;

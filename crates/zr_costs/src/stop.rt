@@ -39,7 +39,7 @@ pub(crate) fn stop_of(i: u32, stop: BnbStop) -> CostStop
     match stop {
         BnbStop::Spent => CostStop::Spent,
         BnbStop::Wide(asked) => CostStop::Wide(asked),
-        // The aim is its own least value's multiple.
+        // The least value is a whole number, so the aim is multiplied by 1.
         BnbStop::WideAim(_) => unreachable!(),
         BnbStop::Endless { var, dir } => CostStop::Endless {
             player: i,

@@ -7,4 +7,5 @@ use Rattle.zr_costs.proofs.means.means_of.Given as goal
 
 abbrev pub invariant-loop-i : goal.invariant-loop-i
 invariant-loop-i l =
-    all_means (game_of l.game) (map mixture_of l.strategies) ≡ after l.all.items (all_means (drop l.i (game_of l.game)) (drop l.i (map mixture_of l.strategies)))
+    all_means (game_of l.game) (map mixture_of l.strategies) ≡ after l.all.items
+    (all_means (drop l.i (game_of l.game)) (drop l.i (map mixture_of l.strategies)))

@@ -24,7 +24,8 @@ module _ (c : After-var_count) where
       let f = var_total_few (game_of c.args.game.now) c.args.game.now.sound in
       omega (arith, f, c.requires.means)
 
-  span : (player : PlayerOf) → IsPlayer (game_of c.args.game.now) c.args.i player → c.place-from.result + c.var_count.result - c.place-from.result ≡ length player.vars
+  span : (player : PlayerOf) → IsPlayer (game_of c.args.game.now) c.args.i player
+      → c.place-from.result + c.var_count.result - c.place-from.result ≡ length player.vars
   span player is = let k = c.var_count.ensures player is in omega (arith, k)
 
 pub overflow_add-result : goal.overflow_add-result
@@ -44,17 +45,21 @@ offset_bounds-means-from c =
 pub slice_bounds-result-end : goal.slice_bounds-result-end
 slice_bounds-result-end c = inside ((goal.at.slice_bounds-result-end c).After-var_count)
 
-cut : (means : List Fraction) (from at n k : ℕ) → from ≡ at → n ≡ k → take n (drop from means) ≡ take k (drop at means)
+cut : (means : List Fraction) (from at n k : ℕ) → from ≡ at → n ≡ k
+    → take n (drop from means) ≡ take k (drop at means)
 cut means from at n k e f = rw (e, f) refl
 
 pub returns-clause-list : goal.returns-clause-list
 returns-clause-list c player is =
     let at = (goal.at.returns-clause-list c).After-var_count in
-    cut c.args.means.now c.place-from.result (place_of (game_of c.args.game.now) c.args.i 0) (c.place-from.result + c.var_count.result - c.place-from.result) (length player.vars) c.place-from.ensures (span at player is)
+    cut c.args.means.now c.place-from.result (place_of (game_of c.args.game.now) c.args.i 0)
+    (c.place-from.result + c.var_count.result - c.place-from.result)
+    (length player.vars) c.place-from.ensures (span at player is)
 
 pub returns-clause-len : goal.returns-clause-len
 returns-clause-len c player is =
     let at = (goal.at.returns-clause-len c).After-var_count in
     let d = length-drop c.place-from.result c.args.means.now in
     let i = inside at in
-    length-take-le (c.place-from.result + c.var_count.result - c.place-from.result) (drop c.place-from.result c.args.means.now) (omega (arith, d, i)) ∙ span at player is
+    length-take-le (c.place-from.result + c.var_count.result - c.place-from.result)
+    (drop c.place-from.result c.args.means.now) (omega (arith, d, i)) ∙ span at player is

@@ -5,4 +5,5 @@ use Rattle.zr_costs.proofs.means.place.Given as goal
 
 abbrev pub invariant-loop-player : goal.invariant-loop-player
 invariant-loop-player l =
-    l.before + var_total (map player_of (drop l.player-index (take l.k l.game.players.items))) ≡ var_total (map player_of (take l.k l.game.players.items))
+    l.before + var_total (map player_of (drop l.player-index (take l.k l.game.players.items)))
+    ≡ var_total (map player_of (take l.k l.game.players.items))

@@ -14,12 +14,14 @@ module _ (c : After-deref_mut) where
   is_player : IsPlayer (game_of c.args.game.now) c.args.i (player_of c.index.result.now)
   is_player =
       found player_of c.args.game.now.players.items c.args.i c.index.result.now
-      (read_below player_of c.args.game.now.players.items c.args.i c.requires.number) c.index.ensures
+      (read_below player_of c.args.game.now.players.items c.args.i c.requires.number)
+      c.index.ensures
 
   count : (player : PlayerOf) → IsPlayer (game_of c.args.game.now) c.args.i player
       → length c.deref_mut.result.now ≡ length player.vars
   count player is =
-      let same = one (game_of c.args.game.now) c.args.i (player_of c.index.result.now) player is_player is in
+      let same = one (game_of c.args.game.now) c.args.i
+      (player_of c.index.result.now) player is_player is in
       let m = length-map c.index.result.now.vars.items var_of in
       let v = ap length c.deref_mut.ensures.value in
       let n : length c.deref_mut.result.now ≡ length (player_of c.index.result.now).vars =
@@ -41,11 +43,13 @@ returns-in-Ok-means-clause-ok c player is =
     let k = c.in-Ok.own.ok.0 in
     made_ok player (mixture_of c.args.strategy.now) (length c.deref_mut.result.now) c.means.new.out
     (count at player is) c.in-Ok-means.ensures.steps
-    ∙ ap Ok (sym (take_at c.means.new.out (drop (length c.means.new.out) c.in-Ok.own.items) c.in-Ok.own.len
+    ∙ ap Ok (sym (take_at c.means.new.out (drop (length c.means.new.out) c.in-Ok.own.items)
+    c.in-Ok.own.len
     (omega (arith, v, a, k))))
 
 pub returns-in-Err-means-clause-err : goal.returns-in-Err-means-clause-err
 returns-in-Err-means-clause-err c player is =
     let at = (goal.at.returns-in-Err-means-clause-err c).After-deref_mut in
-    made_wide player (mixture_of c.args.strategy.now) (length c.deref_mut.result.now) c.in-Err-means.wide
+    made_wide player (mixture_of c.args.strategy.now) (length c.deref_mut.result.now)
+    c.in-Err-means.wide
     c.means.new.out (count at player is) c.in-Err-means.ensures.steps

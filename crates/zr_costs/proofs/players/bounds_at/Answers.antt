@@ -17,14 +17,14 @@ module _ (c : In-loop-i) where
       at_number (game_of c.args.game.now) c.loop-i.i
       (omega (arith, c.loop-i-test.true, c.len-i-end.ensures, c.args.game.now.players.ok.0, m))
 
-pub bound_of-requires-clause-stable : goal.bound_of-requires-clause-stable
-bound_of-requires-clause-stable c = (mixtures_of c.args.profile.now, c.requires.stable)
+pub bound_at-requires-clause-stable : goal.bound_at-requires-clause-stable
+bound_at-requires-clause-stable c = (mixtures_of c.args.profile.now, c.requires.stable)
 
 pub returns-in-Err-clause-cause : goal.returns-in-Err-clause-cause
 returns-in-Err-clause-cause c =
     let here = who (goal.at.returns-in-Err-clause-cause c).In-loop-i in
     stop_cause (game_of c.args.game.now) (mixtures_of c.args.profile.now) c.args.means.now
-    c.requires.stable c.loop-i.i here.0 here.1 c.args.purse.now c.loop-i.purse c.bound_of.new.purse
+    c.requires.stable c.loop-i.i here.0 here.1 c.args.purse.now c.loop-i.purse c.bound_at.new.purse
     c.loop-i.invariant.so_far.work c.in-Err.stop
     (c.in-Err.ensures.cause (mixtures_of c.args.profile.now) c.requires.stable here.0 here.1)
 
@@ -32,14 +32,14 @@ pub returns-in-Err-clause-spends : goal.returns-in-Err-clause-spends
 returns-in-Err-clause-spends c =
     let here = who (goal.at.returns-in-Err-clause-spends c).In-loop-i in
     stop_work (game_of c.args.game.now) (mixtures_of c.args.profile.now) c.args.means.now
-    c.requires.stable c.loop-i.i here.0 here.1 c.args.purse.now c.loop-i.purse c.bound_of.new.purse
+    c.requires.stable c.loop-i.i here.0 here.1 c.args.purse.now c.loop-i.purse c.bound_at.new.purse
     c.loop-i.invariant.so_far.work (c.in-Err.ensures.spends here.0 here.1)
 
 pub returns-in_default-clause-spends : goal.returns-in_default-clause-spends
 returns-in_default-clause-spends c =
     let here = who (goal.at.returns-in_default-clause-spends c).In-loop-i in
     stop_work (game_of c.args.game.now) (mixtures_of c.args.profile.now) c.args.means.now
-    c.requires.stable c.loop-i.i here.0 here.1 c.args.purse.now c.loop-i.purse c.bound_of.new.purse
+    c.requires.stable c.loop-i.i here.0 here.1 c.args.purse.now c.loop-i.purse c.bound_at.new.purse
     c.loop-i.invariant.so_far.work (c.in-Ok.ensures.spends here.0 here.1)
 
 pub loop-i-preserved : goal.loop-i-preserved
@@ -50,8 +50,9 @@ loop-i-preserved c =
       so_far = rw c.in-Ok-push.ensures.items
           (more_bounds (game_of c.args.game.now) (profile_with (mixtures_of c.args.profile.now))
           c.loop-i.i here.0 here.1 c.loop-i.bounds.items c.args.purse.now c.loop-i.purse
-          c.bound_of.new.purse c.loop-i.invariant.so_far c.in-Ok.bound
+          c.bound_at.new.purse c.loop-i.invariant.so_far c.in-Ok.bound
           (c.in-Ok.ensures.bound (mixtures_of c.args.profile.now) c.requires.stable here.0 here.1)
           (c.in-Ok.ensures.spends here.0 here.1));
-      within = omega (arith, c.loop-i-test.true, c.len-i-end.ensures, c.args.game.now.players.ok.0, m);
+      within =
+          omega (arith, c.loop-i-test.true, c.len-i-end.ensures, c.args.game.now.players.ok.0, m);
     }

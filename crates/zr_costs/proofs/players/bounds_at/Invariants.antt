@@ -6,6 +6,7 @@ use Rattle.zr_costs.proofs.players.bounds_at.Given as goal
 
 abbrev pub invariant-loop-i : goal.invariant-loop-i
 invariant-loop-i l = record {
-  so_far : BoundsSoFar (game_of l.game) (profile_with (mixtures_of l.profile)) l.i l.bounds.items l.fn.purse l.purse;
+  so_far : BoundsSoFar (game_of l.game) (profile_with (mixtures_of l.profile)) l.i l.bounds.items
+      l.fn.purse l.purse;
   within : l.i ≤ length (game_of l.game);
 }
