@@ -1,0 +1,4 @@
+pub mod Lists
+pub mod Results
+pub mod Rays
+pub mod Naming

@@ -1,3 +1,4 @@
 pub mod Starts
 pub mod Items
 pub mod Causes
+pub mod Offers

@@ -2,6 +2,9 @@
 #![tactic(auto)]
 
 mod items;
+mod offer;
+mod ray;
+mod start;
 mod stop;
 
 pub use items::named_items;
