@@ -152,7 +152,8 @@ module _ (game : GameOf) (i : ℕ) (player : PlayerOf) where
     rays = λ s w dir ray changes. b.rays s w (within w dir ray changes) dir ray changes;
   }
     where
-      within : (w : ℕ) (dir : Direction) → IsRelaxedRay player dir → change_of dir w ≢ pos 0 → w < v
+      within : (w : ℕ) (dir : Direction) → IsRelaxedRay player dir → change_of dir w ≢ pos 0
+          → w < v
       within w dir ray changes = cases (below_or_not w v)
         where
           cases : (w < v) ⊎ (v ≤ w) → w < v

@@ -104,7 +104,7 @@ pub found_by : (game : GameOf) (i : ℕ) (player : PlayerOf) → (j : ℕ) × Is
     → IsDrawnRay player (IsPlainAim player) dir → (o : Option Named)
     → IsOffered game i player (NamedRay (start_point player) dir) o
     → IsFoundFor game i player v z o
-found_by game i player some v z aim is x dir un drawn None offer = λ start other ray falls. record {
+found_by game i player some v z aim is x dir un drawn None offer = λ start other ray f. record {
   dir = dir;
   changes = changes player some v z aim is x dir un;
   drawn = drawn;

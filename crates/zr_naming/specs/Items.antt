@@ -36,7 +36,8 @@ IsNarrowItem game i item =
 abbrev pub IsWideItem : GameOf → ℕ → PlayerOf → NamedOf → Type 0
 IsWideItem game i player item =
     ((w : Wide) × (test_wide player item ≡ Some w))
-    ⊎ ((leaves : LeavesOf) → HaveLeaves game leaves → (w : Wide) × HasWideItem game leaves i item w)
+    ⊎ ((leaves : LeavesOf) → HaveLeaves game leaves
+    → (w : Wide) × HasWideItem game leaves i item w)
 
 -- what each named item is: a feasible point or a ray, drawn from a question, with a narrow row
 pub record IsNamedItem (game : GameOf) (i : ℕ) (player : PlayerOf) (item : NamedOf) : Type 0 where
@@ -52,8 +53,8 @@ pub record IsStart (player : PlayerOf) : Type 0 where
   pub feasible : IsFeasible player (start_point player)
   pub narrow : feasible_wide player (start_point player) ≡ None
 
--- a ray from the start point that changes variable v is named; or a basic direction changes it with
--- which the ray has a wide step
+-- a ray from the start point that changes variable v is named; or a basic direction changes it, and
+-- the ray has a wide step
 pub record IsChanged (game : GameOf) (i : ℕ) (player : PlayerOf) (items : List NamedOf)
     (v : ℕ) : Type 0 where
   pub dir : Direction

@@ -22,9 +22,9 @@ use zr_io::Purse;
 /// The items that are named of player `i`, which is below the number of players: where it has no
 /// pairs and its start point is feasible, that point, and rays from there.
 ///
-/// For each variable that no named ray changes, a ray of the relaxation is asked for along which it
-/// rises, and if there is none along which it falls. An item is left out where a step of its test
-/// or of its row is too wide. The purse counts the pivots, and pays no branch.
+/// For each variable that no named ray changes, a ray of the relaxation is asked for along which
+/// it rises, and if there is none, one along which it falls. An item is left out where a step of
+/// its test or of its row is too wide. The purse counts the pivots, and pays no branch.
 ///
 /// # Errors
 ///

@@ -6,6 +6,8 @@ mod offer;
 mod ray;
 mod start;
 mod stop;
+#[cfg(test)]
+mod tests;
 
 pub use items::named_items;
 pub use stop::NamingStop;

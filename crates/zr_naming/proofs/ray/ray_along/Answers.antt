@@ -30,8 +30,8 @@ ask-requires-clause-aim c =
 
 drawn : (c : After-deref) → IsPlainAim (player_of c.args.player.now) c.in-Ok.aim.items
 drawn c =
-    plain_variable (player_of c.args.player.now) c.args.v c.args.z c.in-Ok.aim.items c.requires.sign
-    (aim_is c)
+    plain_variable (player_of c.args.player.now) c.args.v c.args.z c.in-Ok.aim.items
+    c.requires.sign (aim_is c)
 
 pub offered_ray-requires-clause-drawn : goal.offered_ray-requires-clause-drawn
 offered_ray-requires-clause-drawn c =
