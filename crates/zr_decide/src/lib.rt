@@ -8,6 +8,8 @@ mod decision;
 mod solution;
 mod stop;
 mod system;
+#[cfg(test)]
+mod tests;
 
 pub use decision::decide;
 pub use stop::DecideStop;
