@@ -5,7 +5,7 @@ use Rattle.zr_game.specs.declared.kind.Kind.TheVariants.{Pure, Mixed}
 use Rattle.zr_words.specs.Words.{OptionName, Said, Text, Words, budget_option, kind_option, order_option, rounds_option, texts_of}
 use Rattle.zr_words.specs.Commands.{AreOptions, Asks, HasNumber, HaveForm, IsAction, IsNumber, IsSameCommand, IsValue, kind_name}
 use Rattle.zr_words.specs.declared.command.Command.{Command}
-use Rattle.zr_words.specs.declared.command.Command.TheVariants.{Solve, Check, Migrate}
+use Rattle.zr_words.specs.declared.command.Command.TheVariants.{Solve, Check, Best, Migrate}
 use Rattle.zr_words.specs.declared.command.Options.{Options}
 use Rattle.zr_words.proofs.OneSaying.{one_saying}
 
@@ -64,6 +64,8 @@ one_action texts options (Solve g o) (Solve h p) a b =
     (cc, a.1 ∙ sym b.1)
 one_action texts options (Solve g o) (Check h k) a b =
     let n : 2 ≡ 3 = ap length (sym a.0 ∙ b) in absurd (omega (arith, n))
+one_action texts options (Solve g o) (Best h k p) a b =
+    let n : 2 ≡ 3 = ap length (sym a.0 ∙ b.0) in absurd (omega (arith, n))
 one_action texts options (Solve g o) (Migrate h) a b =
     let e : codes "solve" ∷ g.now ∷ [] ≡ codes "migrate" ∷ h.now ∷ [] = sym a.0 ∙ b in
     let f : codes "solve" ≡ codes "migrate" = cc in
@@ -73,8 +75,25 @@ one_action texts options (Check g c) (Solve h p) a b =
 one_action texts options (Check g c) (Check h k) a b =
     let e : codes "check" ∷ g.now ∷ c.now ∷ [] ≡ codes "check" ∷ h.now ∷ k.now ∷ [] = sym a ∙ b in
     (cc, cc)
+one_action texts options (Check g c) (Best h k p) a b =
+    let e : codes "check" ∷ g.now ∷ c.now ∷ [] ≡ codes "best" ∷ h.now ∷ k.now ∷ [] = sym a ∙ b.0 in
+    let f : codes "check" ≡ codes "best" = cc in
+    let n : 5 ≡ 4 = ap length f in absurd (omega (arith, n))
 one_action texts options (Check g c) (Migrate h) a b =
     let n : 3 ≡ 2 = ap length (sym a ∙ b) in absurd (omega (arith, n))
+one_action texts options (Best g c o) (Solve h p) a b =
+    let n : 3 ≡ 2 = ap length (sym a.0 ∙ b.0) in absurd (omega (arith, n))
+one_action texts options (Best g c o) (Check h k) a b =
+    let e : codes "best" ∷ g.now ∷ c.now ∷ [] ≡ codes "check" ∷ h.now ∷ k.now ∷ [] = sym a.0 ∙ b in
+    let f : codes "best" ≡ codes "check" = cc in
+    let n : 4 ≡ 5 = ap length f in absurd (omega (arith, n))
+one_action texts options (Best g c o) (Best h k p) a b =
+    let e : codes "best" ∷ g.now ∷ c.now ∷ [] ≡ codes "best" ∷ h.now ∷ k.now ∷ [] = sym a.0 ∙ b.0 in
+    (cc, cc, a.1 ∙ sym b.1)
+one_action texts options (Best g c o) (Migrate h) a b =
+    let n : 3 ≡ 2 = ap length (sym a.0 ∙ b) in absurd (omega (arith, n))
+one_action texts options (Migrate g) (Best h k p) a b =
+    let n : 2 ≡ 3 = ap length (sym a ∙ b.0) in absurd (omega (arith, n))
 one_action texts options (Migrate g) (Solve h p) a b =
     let e : codes "migrate" ∷ g.now ∷ [] ≡ codes "solve" ∷ h.now ∷ [] = sym a ∙ b.0 in
     let f : codes "migrate" ≡ codes "solve" = cc in

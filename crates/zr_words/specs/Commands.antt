@@ -4,7 +4,7 @@ use Rattle.std.specs.Str.Parse.{IsNumeral, signed_digits_value, without_leading_
 use Rattle.zr_game.specs.declared.kind.Kind.{Kind}
 use Rattle.zr_game.specs.declared.kind.Kind.TheVariants.{Pure, Mixed}
 use Rattle.zr_words.specs.declared.command.Command.{Command}
-use Rattle.zr_words.specs.declared.command.Command.TheVariants.{Solve, Check, Migrate}
+use Rattle.zr_words.specs.declared.command.Command.TheVariants.{Solve, Check, Best, Migrate}
 use Rattle.zr_words.specs.declared.command.Options.{Options}
 use Rattle.zr_words.specs.Words.{OptionName, Said, Says, Text, Words, budget_option, default_text, kind_option, option_name, order_option, rounds_option, texts_of, values_named}
 
@@ -54,6 +54,8 @@ abbrev pub IsAction : List Text → Options → Command → Type 0
 IsAction texts options (Solve game own) =
     (texts ≡ codes "solve" ∷ game.now ∷ []) × (own ≡ options)
 IsAction texts options (Check game cert) = texts ≡ codes "check" ∷ game.now ∷ cert.now ∷ []
+IsAction texts options (Best game cert own) =
+    (texts ≡ codes "best" ∷ game.now ∷ cert.now ∷ []) × (own ≡ options)
 IsAction texts options (Migrate game) = texts ≡ codes "migrate" ∷ game.now ∷ []
 
 -- the texts are of no action
@@ -89,6 +91,8 @@ IsSameCommand (Solve game options) (Solve other choice) =
     (game.now ≡ other.now) × (options ≡ choice)
 IsSameCommand (Check game cert) (Check other second) =
     (game.now ≡ other.now) × (cert.now ≡ second.now)
+IsSameCommand (Best game cert options) (Best other second choice) =
+    (game.now ≡ other.now) × (cert.now ≡ second.now) × (options ≡ choice)
 IsSameCommand (Migrate game) (Migrate other) = game.now ≡ other.now
 IsSameCommand _ _ = ⊥
 

@@ -32,7 +32,7 @@ fn action_arg<'a>(alloc: Global) -> Arg<'a>
 {
     Arg::new(alloc, "ACTION")
         .required(true)
-        .help("solve, check or migrate")
+        .help("solve, check, best or migrate")
 }
 
 fn game_arg<'a>(alloc: Global) -> Arg<'a>

@@ -4,11 +4,26 @@ use zr_game::Kind;
 #[derive(Clone, Copy, Debug)]
 pub enum Command<'a> {
     /// `solve GAME`: the game's equilibrium of the kind, or that it has none.
-    Solve { game: &'a str, options: Options },
+    Solve {
+        game: &'a str,
+        options: Options,
+    },
     /// `check GAME CERT`: whether the certificate is right for the game.
-    Check { game: &'a str, cert: &'a str },
+    Check {
+        game: &'a str,
+        cert: &'a str,
+    },
+    /// `best GAME CERT`: what each player of the game can get at best against the certificate's
+    /// profile.
+    Best {
+        game: &'a str,
+        cert: &'a str,
+        options: Options,
+    },
     /// `migrate GAME`: the game's text in today's form.
-    Migrate { game: &'a str },
+    Migrate {
+        game: &'a str,
+    },
 }
 
 /// The options of the command line, each as it is given or at its default.

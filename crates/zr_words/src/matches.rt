@@ -4,7 +4,6 @@ ghost use Rattle.clap.specs.Words.{first_of, found_of, rows_of};
 ghost use Rattle.zr_words.specs.Words.{OptionName, Said, kind_option, option_name, texts_of};
 ghost use Rattle.zr_words.specs.Commands.{AreOptions, HasNumber, IsAction, IsNoAction, IsValue, kind_name};
 ghost use Rattle.zr_words.specs.Matches.{AreRowsOf, IsKindRow, IsNumberRow};
-ghost use Rattle.zr_words.specs.declared.command.Options.{Options as OptionsView};
 
 use crate::command::{Command, Options};
 use clap::ArgMatches;
@@ -24,19 +23,29 @@ pub(crate) fn command_of<'a>(matches: &ArgMatches<'a>, options: Options) -> Opti
         return None;
     };
     match text_at(matches, "CERT") {
-        Some(cert) => with_cert(action, game, cert),
+        Some(cert) => with_cert(action, game, cert, options),
         None => without_cert(action, game, options),
     }
 }
 
 /// The command of an action, a game and a certificate, if there is one.
-fn with_cert<'a>(action: &'a str, game: &'a str, cert: &'a str) -> Option<Command<'a>>
-    ensures some { (options : OptionsView)
-        → IfSome result (IsAction (action.now ∷ game.now ∷ cert.now ∷ []) options) }
+fn with_cert<'a>(
+    action: &'a str,
+    game: &'a str,
+    cert: &'a str,
+    options: Options,
+) -> Option<Command<'a>>
+    ensures some { IfSome result (IsAction (action.now ∷ game.now ∷ cert.now ∷ []) options) }
     ensures none { IfNone result (IsNoAction (action.now ∷ game.now ∷ cert.now ∷ [])) }
 {
     if action == "check" {
         Some(Command::Check { game, cert })
+    } else if action == "best" {
+        Some(Command::Best {
+            game,
+            cert,
+            options,
+        })
     } else {
         None
     }

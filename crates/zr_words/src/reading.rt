@@ -30,7 +30,7 @@ pub enum Refused {
 ///
 /// `Form` exactly where the words haven't the form of a command line: two or three texts, and the
 /// options, each at most once and within its range. `Action` where they have it, but their texts are
-/// none of `solve GAME`, `check GAME CERT` and `migrate GAME`.
+/// none of `solve GAME`, `check GAME CERT`, `best GAME CERT` and `migrate GAME`.
 pub fn read_words<'a>(alloc: Global, words: &'a [String]) -> Result<Command<'a>, Refused>
     ensures ok { IfOk result (Asks (spelled words.now)) }
     ensures err { IfErr result (IsRefusal (spelled words.now)) }

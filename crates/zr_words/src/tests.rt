@@ -26,8 +26,13 @@ fn lines(rt: HostRuntime) -> Result<(), Fail> {
         ("solve g", solve.as_str()),
         ("--rounds=20 -- solve g", solve.as_str()),
         ("check g -", "Check { game: \"g\", cert: \"-\" }"),
+        (
+            "best g --budget 0 -",
+            "Best { game: \"g\", cert: \"-\", options",
+        ),
         ("migrate --kind pure g", "Migrate { game: \"g\" }"),
         ("solve g c", "no action"),
+        ("best g", "no action"),
         ("play g", "no action"),
         ("solve", "error: "),
         ("solve g --rounds 10001", "error: "),

@@ -10,7 +10,7 @@ returns-in-Some-text_at-2-clause-some c = λ said rows few.
     let action : Some c.in-Some.action.now ≡ _ = c.in-Some.ensures ∙ rows.action in
     let game : Some c.in-Some-text_at.game.now ≡ _ = c.in-Some-text_at.ensures ∙ rows.game in
     let cert : Some c.in-Some-text_at-2.cert.now ≡ _ = c.in-Some-text_at-2.ensures ∙ rows.cert in
-    subst (λ (ts : List Text). IfSome c.with_cert.result (IsAction ts c.args.options)) (three_texts _ _ _ _ action game cert few) (c.with_cert.ensures.some c.args.options)
+    subst (λ (ts : List Text). IfSome c.with_cert.result (IsAction ts c.args.options)) (three_texts _ _ _ _ action game cert few) c.with_cert.ensures.some
 
 pub returns-in-None-clause-some : goal.returns-in-None-clause-some
 returns-in-None-clause-some c = λ said rows few.
