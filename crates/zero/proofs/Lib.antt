@@ -2,8 +2,10 @@ pub mod CommandLemmas
 pub mod TextLemmas
 pub mod WritingLemmas
 pub mod LineLemmas
+mod BestLemmas
 mod CauseLemmas
 mod TruthLemmas
 mod GameLemmas
 mod StatusLemmas
+mod OutcomeLemmas
 mod ToldLemmas

@@ -1,17 +1,31 @@
 -- What goes with the status of a refusal.
-use Rattle.std.proofs.Common.{◌≡◌, ℕ, string_bytes, inl, inr, ◌⊎◌, arith}
+use Rattle.std.proofs.Common.{◌≡◌, ℕ, Option, string_bytes, refl, inl, inr, ◌⊎◌, arith}
 use Rattle.zr_io.specs.Contents.{Bytes, Contents}
+use Rattle.zr_io.specs.Written.{Appends}
+use Rattle.zr_report.specs.declared.end.End.{End}
+use Rattle.zr_report.specs.declared.end.End.TheVariants as ends
+use Rattle.zr_report.specs.Spelling.{report_text}
 use Rattle.zr_value.specs.declared.fault.GameFault.{GameFault}
 use Rattle.zero.specs.declared.refusal.CertFlaw.{CertFlaw}
 use Rattle.zero.specs.declared.refusal.Refusal.{Refusal}
-use Rattle.zero.specs.declared.refusal.Refusal.TheVariants.{Usage, CannotRead, TooLong, Faulty, Flawed, NoMemory, WriteFault, Unbuilt, UnbuiltGame}
+use Rattle.zero.specs.declared.refusal.Refusal.TheVariants.{Usage, CannotRead, TooLong, Faulty, Flawed, Ended, NoMemory, WriteFault, Unbuilt, UnbuiltGame}
 use Rattle.zero.specs.declared.text.Text.{Text}
 use Rattle.zero.specs.declared.text.Text.TheVariants.{Game, Cert}
 use Rattle.zr_words.specs.Words.{Words}
 use Rattle.zero.specs.Commands.{IsUnbuiltCommand}
 use Rattle.zero.specs.Reads.{IsDue, IsLastTake, IsLong}
-use Rattle.zero.specs.Answers.{IsFaultyGame, IsRefusedCert, IsUnbuiltGame}
-use Rattle.zero.specs.Refusals.{HasTaken, IsCause, status_of}
+use Rattle.zero.specs.Answers.{IsEnded, IsFaultyGame, IsRefusedCert, IsUnbuiltGame}
+use Rattle.zero.specs.Refusals.{HasReported, HasTaken, IsCause, IsEndStatus, end_status, status_of}
+
+-- an end has one of its statuses
+pub end_range : (end : End) → IsEndStatus (end_status end)
+end_range (ends.Budget limit) = (omega arith, omega arith)
+end_range (ends.Stuck asked) = (omega arith, omega arith)
+end_range (ends.Step wide) = (omega arith, omega arith)
+end_range (ends.Certificate number cert) = (omega arith, omega arith)
+end_range (ends.Open player var dir named) = (omega arith, omega arith)
+end_range (ends.Large cells) = (omega arith, omega arith)
+end_range (ends.Long bytes) = (omega arith, omega arith)
 
 module _ (words : Words) (contents : Contents) (before after : ℕ) where
   -- a text that can't be read is due, and the last that was taken
@@ -22,6 +36,7 @@ module _ (words : Words) (contents : Contents) (before after : ℕ) where
   unread_of (TooLong text name) h t e = absurd (omega (arith, e))
   unread_of (Faulty fault path) h t e = absurd (omega (arith, e))
   unread_of (Flawed number flaw) h t e = absurd (omega (arith, e))
+  unread_of (Ended end) h t e = let range = end_range end in absurd (omega (arith, e, range.0, range.1))
   unread_of NoMemory h t e = absurd (omega (arith, e))
   unread_of WriteFault h t e = absurd (omega (arith, e))
   unread_of Unbuilt h t e = absurd (omega (arith, e))
@@ -35,6 +50,7 @@ module _ (words : Words) (contents : Contents) (before after : ℕ) where
   long_of (TooLong text name) h t e = (text, name.now, h, t)
   long_of (Faulty fault path) h t e = absurd (omega (arith, e))
   long_of (Flawed number flaw) h t e = absurd (omega (arith, e))
+  long_of (Ended end) h t e = let range = end_range end in absurd (omega (arith, e, range.0, range.1))
   long_of NoMemory h t e = absurd (omega (arith, e))
   long_of WriteFault h t e = absurd (omega (arith, e))
   long_of Unbuilt h t e = absurd (omega (arith, e))
@@ -48,6 +64,7 @@ module _ (words : Words) (contents : Contents) (before after : ℕ) where
   fault_of (TooLong text name) h t e = absurd (omega (arith, e))
   fault_of (Faulty fault path) h t e = (fault, string_bytes path, h, t)
   fault_of (Flawed number flaw) h t e = absurd (omega (arith, e))
+  fault_of (Ended end) h t e = let range = end_range end in absurd (omega (arith, e, range.0, range.1))
   fault_of NoMemory h t e = absurd (omega (arith, e))
   fault_of WriteFault h t e = absurd (omega (arith, e))
   fault_of Unbuilt h t e = absurd (omega (arith, e))
@@ -61,6 +78,7 @@ module _ (words : Words) (contents : Contents) (before after : ℕ) where
   flaw_of (TooLong text name) h t e = absurd (omega (arith, e))
   flaw_of (Faulty fault path) h t e = absurd (omega (arith, e))
   flaw_of (Flawed number flaw) h t e = (number, flaw, h, t)
+  flaw_of (Ended end) h t e = let range = end_range end in absurd (omega (arith, e, range.0, range.1))
   flaw_of NoMemory h t e = absurd (omega (arith, e))
   flaw_of WriteFault h t e = absurd (omega (arith, e))
   flaw_of Unbuilt h t e = absurd (omega (arith, e))
@@ -74,7 +92,24 @@ module _ (words : Words) (contents : Contents) (before after : ℕ) where
   unbuilt_of (TooLong text name) h t e = absurd (omega (arith, e))
   unbuilt_of (Faulty fault path) h t e = absurd (omega (arith, e))
   unbuilt_of (Flawed number flaw) h t e = absurd (omega (arith, e))
+  unbuilt_of (Ended end) h t e = let range = end_range end in absurd (omega (arith, e, range.0, range.1))
   unbuilt_of NoMemory h t e = absurd (omega (arith, e))
   unbuilt_of WriteFault h t e = absurd (omega (arith, e))
   unbuilt_of Unbuilt h t e = inl h
   unbuilt_of UnbuiltGame h t e = inr (h, t)
+
+  -- an end without an answer is one of the search for best answers, with its report
+  pub ended_of : (old new : Option Bytes) (refusal : Refusal) → IsCause words contents refusal
+      → HasTaken before after refusal → HasReported old new refusal → IsEndStatus (status_of refusal)
+      → (end : End) × (status_of refusal ≡ end_status end) × IsEnded words contents end
+      × IsLastTake Cert before after × Appends old (report_text end) new
+  ended_of old new (Usage help) h t w e = absurd (omega (arith, e.0))
+  ended_of old new (CannotRead text name) h t w e = absurd (omega (arith, e.0))
+  ended_of old new (TooLong text name) h t w e = absurd (omega (arith, e.0))
+  ended_of old new (Faulty fault path) h t w e = absurd (omega (arith, e.0))
+  ended_of old new (Flawed number flaw) h t w e = absurd (omega (arith, e.0))
+  ended_of old new (Ended end) h t w e = (end, refl, h, t, w)
+  ended_of old new NoMemory h t w e = absurd (omega (arith, e.1))
+  ended_of old new WriteFault h t w e = absurd (omega (arith, e.1))
+  ended_of old new Unbuilt h t w e = absurd (omega (arith, e.1))
+  ended_of old new UnbuiltGame h t w e = absurd (omega (arith, e.1))

@@ -5,13 +5,15 @@ use Rattle.zr_io.specs.Contents.{Bytes, Contents}
 use Rattle.zr_words.specs.Words.{Words}
 use Rattle.zr_words.specs.Commands.{IsFaulty}
 use Rattle.zero.specs.declared.refusal.Refusal.{Refusal}
-use Rattle.zero.specs.declared.refusal.Refusal.TheVariants.{Usage, CannotRead, TooLong, Faulty, Flawed, NoMemory, WriteFault, Unbuilt, UnbuiltGame}
+use Rattle.zero.specs.declared.refusal.Refusal.TheVariants.{Usage, CannotRead, TooLong, Faulty, Flawed, Ended, NoMemory, WriteFault, Unbuilt, UnbuiltGame}
 use Rattle.zero.specs.declared.text.Text.{Text}
 use Rattle.zero.specs.declared.text.Text.TheVariants.{Game, Cert}
-use Rattle.zero.specs.Commands.{IsGameName, IsUnbuiltCommand}
+use Rattle.zero.specs.Commands.{IsUnbuiltCommand}
 use Rattle.zero.specs.Reads.{IsDue}
-use Rattle.zero.specs.Refusals.{IsCause, IsHelp, status_of}
+use Rattle.zero.specs.Refusals.{IsCause, IsHelp, NamesGame, status_of}
 use Rattle.zero.specs.Told.{IsStatus}
+use Rattle.zero.proofs.CauseLemmas.{names_of_due}
+use Rattle.zero.proofs.LineLemmas.{end_range}
 use Rattle.zero.proofs.CommandLemmas.{named_or_faulty, named_or_unbuilt}
 
 module _ (words : Words) (contents : Contents) where
@@ -21,9 +23,9 @@ module _ (words : Words) (contents : Contents) where
   faulty_of_help (Some text) h = λ command asks. h asks.said asks.options asks.form
 
   -- a text that is due is named, or its certificate's game is
-  due_name : (text : Text) (name : Bytes) → IsDue words contents text name → (game : Bytes) × IsGameName words game
+  due_name : (text : Text) (name : Bytes) → IsDue words contents text name → NamesGame words
   due_name Game name due = (name, due)
-  due_name Cert name due = (due.1.game_name, inr (inl (name, due.1.check)))
+  due_name Cert name due = names_of_due due.2
 
   -- words that ask for nothing have the status 2
   pub faulty_status : (refusal : Refusal) → IsCause words contents refusal → IsFaulty words
@@ -35,7 +37,9 @@ module _ (words : Words) (contents : Contents) where
       let due = due_name text name.now h.due in absurd (named_or_faulty words due.0 due.1 faulty)
   faulty_status (Faulty fault path) h faulty = absurd (named_or_faulty words h.name h.named faulty)
   faulty_status (Flawed number flaw) h faulty =
-      absurd (named_or_faulty words h.asked.due.game_name (inr (inl (h.asked.name, h.asked.due.check))) faulty)
+      let names = names_of_due h.asked.due in absurd (named_or_faulty words names.0 names.1 faulty)
+  faulty_status (Ended end) h faulty =
+      let names = names_of_due h.asked.due in absurd (named_or_faulty words names.0 names.1 faulty)
   faulty_status NoMemory h faulty = inr refl
   faulty_status WriteFault h faulty = absurd (named_or_faulty words h.0 h.1 faulty)
   faulty_status Unbuilt h faulty = absurd (faulty h.1.0 h.1.1)
@@ -51,7 +55,9 @@ module _ (words : Words) (contents : Contents) where
       let due = due_name text name.now h.due in absurd (named_or_unbuilt words due.0 due.1 unbuilt)
   unbuilt_status (Faulty fault path) h unbuilt = absurd (named_or_unbuilt words h.name h.named unbuilt)
   unbuilt_status (Flawed number flaw) h unbuilt =
-      absurd (named_or_unbuilt words h.asked.due.game_name (inr (inl (h.asked.name, h.asked.due.check))) unbuilt)
+      let names = names_of_due h.asked.due in absurd (named_or_unbuilt words names.0 names.1 unbuilt)
+  unbuilt_status (Ended end) h unbuilt =
+      let names = names_of_due h.asked.due in absurd (named_or_unbuilt words names.0 names.1 unbuilt)
   unbuilt_status NoMemory h unbuilt = inr refl
   unbuilt_status WriteFault h unbuilt = absurd (named_or_unbuilt words h.0 h.1 unbuilt)
   unbuilt_status Unbuilt h unbuilt = inl refl
@@ -64,6 +70,7 @@ module _ (words : Words) (contents : Contents) where
   usage_of (TooLong text name) h e = absurd (omega (arith, e))
   usage_of (Faulty fault path) h e = absurd (omega (arith, e))
   usage_of (Flawed number flaw) h e = absurd (omega (arith, e))
+  usage_of (Ended end) h e = let range = end_range end in absurd (omega (arith, e, range.0))
   usage_of NoMemory h e = absurd (omega (arith, e))
   usage_of WriteFault h e = absurd (omega (arith, e))
   usage_of Unbuilt h e = absurd (omega (arith, e))

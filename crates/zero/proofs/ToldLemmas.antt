@@ -1,5 +1,5 @@
 -- What comes of texts that are told.
-use Rattle.std.proofs.Common.{◌≡◌, ℕ, ◌≤◌, true, length, Some, refl, sym, ap, subst, ◌∙◌, inl, inr, arith, string_bytes}
+use Rattle.std.proofs.Common.{◌≡◌, ℕ, ◌≤◌, true, List, length, Some, refl, sym, ap, subst, ◌∙◌, inl, inr, arith, string_bytes}
 use Rattle.zr_game.specs.Players.{GameOf}
 use Rattle.zr_game.specs.Forms.{IsGame}
 use Rattle.zr_game.specs.declared.kind.Kind.TheVariants.{Pure}
@@ -10,32 +10,37 @@ use Rattle.zr_source.specs.Sources.{SourceOf}
 use Rattle.zr_follow.specs.Expansion.{expansion}
 use Rattle.zr_value.specs.declared.fault.GameFault.{GameFault}
 use Rattle.zr_trial.specs.Reach.{IsWithinReach}
-use Rattle.zr_cert.specs.Certs.{CertOf}
+use Rattle.zr_cert.specs.Certs.{CertOf, MixtureOf, VerdictOf}
 use Rattle.zr_cert.specs.Forms.{IsCert}
 use Rattle.zr_cert.specs.Lines.{line_count}
 use Rattle.zr_cert.specs.declared.fault.CertFault.{CertFault}
 use Rattle.zr_cert.specs.declared.fault.CertFault.TheVariants as checks
-use Rattle.zr_check.specs.Checks.{CertRefused}
-use Rattle.zr_check.proofs.Narrow.{cert_passes}
-use Rattle.zr_check.proofs.Refusals.{cert_apart}
+use Rattle.zr_check.specs.Checks.{CertRefused, HeadRefused}
+use Rattle.zr_check.specs.Right.{IsRightHead}
+use Rattle.zr_check.specs.WideSteps.{HeadIsWide}
+use Rattle.zr_check.proofs.Narrow.{cert_passes, head_is}
+use Rattle.zr_check.proofs.Refusals.{cert_apart, head_apart}
 use Rattle.zr_text.specs.Faults.{IsText}
 use Rattle.zr_text.specs.declared.fault.TextError.TheVariants as texts
 use Rattle.zr_text.proofs.Counts.{as_many_lines}
 use Rattle.zr_text.proofs.Kept.{cert_told}
 use Rattle.zr_text.proofs.Top.{one_text, text_has_no_fault, text_lines}
 use Rattle.zr_words.specs.Words.{Words}
-use Rattle.zero.specs.Commands.{IsCheck, IsGameName, IsMigrate, IsSolve}
+use Rattle.zr_report.specs.declared.end.End.{End}
+use Rattle.zr_report.specs.declared.end.End.TheVariants as ends
+use Rattle.zero.specs.BestTexts.{IsBestEnd, IsProfileText}
+use Rattle.zero.specs.Commands.{IsGameName, IsMigrate, IsPurpose, IsSolve, Purpose, for_best, for_check}
 use Rattle.zero.specs.Games.{HasGameFault, IsGameText}
 use Rattle.zero.specs.Reads.{IsContent, IsDueCert, IsMore, IsTold, cert_limit, game_limit}
-use Rattle.zero.specs.Answers.{IsAnswer, IsAskedCheck, IsFlawed, IsRightText}
-use Rattle.zero.specs.Refusals.{IsCause, status_of}
-use Rattle.zero.specs.Told.{IsStatus, IsCheckStatus, IsGameStatus, IsToldCheck, IsToldGame}
+use Rattle.zero.specs.Answers.{IsAnswer, IsAskedCert, IsFlawed, IsRefusedFor, IsRightText}
+use Rattle.zero.specs.Refusals.{IsCause, end_status, status_of}
+use Rattle.zero.specs.Told.{IsCertStatus, IsDone, IsGameStatus, IsRightFor, IsStatus, IsToldCert, IsToldGame}
 use Rattle.zero.specs.declared.refusal.CertFlaw.{CertFlaw}
 use Rattle.zero.specs.declared.refusal.CertFlaw.TheVariants.{Form, Number, Wrong, Wide}
 use Rattle.zero.specs.declared.refusal.Refusal.{Refusal}
-use Rattle.zero.specs.declared.refusal.Refusal.TheVariants.{Usage, CannotRead, TooLong, Faulty, Flawed, NoMemory, WriteFault, Unbuilt, UnbuiltGame}
+use Rattle.zero.specs.declared.refusal.Refusal.TheVariants.{Usage, CannotRead, TooLong, Faulty, Flawed, Ended, NoMemory, WriteFault, Unbuilt, UnbuiltGame}
 use Rattle.zero.specs.declared.text.Text.TheVariants.{Game, Cert}
-use Rattle.zero.proofs.CommandLemmas.{named_or_faulty, named_or_unbuilt, no_migrate, no_solve, not_both, one_check, one_name}
+use Rattle.zero.proofs.CommandLemmas.{named_or_faulty, named_or_unbuilt, no_migrate, no_solve, not_both, one_name, one_purpose}
 use Rattle.zero.proofs.StatusLemmas.{faulty_of_help}
 use Rattle.zero.proofs.GameLemmas.{game_of_text, game_or_fault, one_game}
 
@@ -90,23 +95,25 @@ module _ (words : Words) (contents : Contents) (bytes : Bytes)
     migrated = λ name other migrate h. migrated name migrate;
   }
 
-  -- a check has the status that the certificate settles
-  checking : (g c : Bytes) → IsCheck words g c → (source : SourceOf) → IsGameText bytes source → (status : ℕ)
-      → IsGameStatus words bytes status
-  checking g c check source text status =
+  -- what a certificate is taken for has the status that the certificate settles
+  using : (p : Purpose) (g c : Bytes) → IsPurpose words p g c → (source : SourceOf) → IsGameText bytes source
+      → (status : ℕ) → IsGameStatus words bytes status
+  using p g c asks source text status =
       standing source text status
-      (λ name solve out. absurd (no_solve words g c Pure name check solve))
-      (λ name solve reach. absurd (no_solve words g c Pure name check solve))
-      (λ name migrate. absurd (no_migrate words g c name check migrate))
+      (λ name solve out. absurd (no_solve words p g c Pure name asks solve))
+      (λ name solve reach. absurd (no_solve words p g c Pure name asks solve))
+      (λ name migrate. absurd (no_migrate words p g c name asks migrate))
 
-  due_text : (source : SourceOf) (name : Bytes) → IsDueCert words contents source name → IsGameText bytes source
-  due_text source name due =
-      let same = game_read due.game_name due.bytes (inr (inl (name, due.check))) due.read.content in
+  due_text : (p : Purpose) (source : SourceOf) (name : Bytes) → IsDueCert words contents p source name
+      → IsGameText bytes source
+  due_text p source name due =
+      let same = game_read due.game_name due.bytes (inr (inl (p, name, due.asks))) due.read.content in
       subst (λ (b : Bytes). IsGameText b source) (sym same) due.text
 
-  due_status : (source : SourceOf) (name : Bytes) → IsDueCert words contents source name → (status : ℕ)
-      → IsGameStatus words bytes status
-  due_status source name due = checking due.game_name name due.check source (due_text source name due)
+  due_status : (p : Purpose) (source : SourceOf) (name : Bytes) → IsDueCert words contents p source name
+      → (status : ℕ) → IsGameStatus words bytes status
+  due_status p source name due =
+      using p due.game_name name due.asks source (due_text p source name due)
 
   faulty_status : (fault : GameFault) (path : Bytes) → HasGameFault bytes fault path → IsGameStatus words bytes 5
   faulty_status fault path first = record {
@@ -128,8 +135,10 @@ module _ (words : Words) (contents : Contents) (bytes : Bytes)
       (λ name solve reach. inl refl)
       (λ name migrate. inl refl)
   answer_status text (inr (inl checked)) =
-      due_status checked.source checked.asked.name checked.asked.due 0
-  answer_status text (inr (inr migrated)) =
+      due_status for_check checked.source checked.asked.name checked.asked.due 0
+  answer_status text (inr (inr (inl best))) =
+      due_status (for_best best.budget) best.source best.asked.name best.asked.due 0
+  answer_status text (inr (inr (inr migrated))) =
       let same = game_read migrated.name migrated.bytes (inr (inr migrated.migrate)) migrated.read.content in
       let source = migrated.same.source in
       let stands = subst (λ (b : Bytes). IsGameText b source) (sym same) migrated.same.game in
@@ -149,12 +158,15 @@ module _ (words : Words) (contents : Contents) (bytes : Bytes)
   refusal_status (TooLong Game name) h three twelve =
       let same = one_name words told.name name.now told.named h.due in
       absurd (not_more contents game_limit told.name bytes name.now told.told same h.more)
-  refusal_status (TooLong Cert name) h three twelve = due_status h.due.0 name.now h.due.1 4
+  refusal_status (TooLong Cert name) h three twelve = due_status h.due.0 h.due.1 name.now h.due.2 4
   refusal_status (Faulty fault path) h three twelve =
       let same = game_read h.name h.bytes h.named h.read.content in
       let first = subst (λ (b : Bytes). HasGameFault b fault (string_bytes path)) (sym same) h.first in
       faulty_status fault (string_bytes path) first
-  refusal_status (Flawed number flaw) h three twelve = due_status h.source h.asked.name h.asked.due 6
+  refusal_status (Flawed number flaw) h three twelve =
+      due_status h.purpose h.source h.asked.name h.asked.due 6
+  refusal_status (Ended end) h three twelve =
+      due_status (for_best h.budget) h.source h.asked.name h.asked.due (end_status end)
   refusal_status NoMemory h three twelve = record {
     faulty = λ fault path f. inr refl;
     far = λ name source solve f out. inr refl;
@@ -181,66 +193,119 @@ text_cert c bytes t within =
     let fits = lines_fit bytes in
     cert_told c t.0 (omega (arith, lines, fits, within))
 
-refused_apart : (game : GameOf) → IsGame game → (bytes : Bytes) → length bytes ≤ cert_limit → (c d : CertOf)
+right_apart : (game : GameOf) → IsGame game → (bytes : Bytes) → length bytes ≤ cert_limit → (c d : CertOf)
     → IsRightText game bytes c → IsText d bytes → (fault : CertFault) → CertRefused game d fault → ⊥
-refused_apart game form bytes within c d right t fault refused =
+right_apart game form bytes within c d right t fault refused =
     let same : c ≡ d = one_text c d right.is_text.0 t.0 (sym right.is_text.1 ∙ t.1) in
     let pass = cert_passes game form c (text_cert c bytes right.is_text within) right.right right.narrow in
     cert_apart game c fault pass (subst (λ (x : CertOf). CertRefused game x fault) (sym same) refused)
 
--- a text that is refused is of no right certificate
-flawed_apart : (game : GameOf) → IsGame game → (bytes : Bytes) → length bytes ≤ cert_limit
-    → (number : ℕ) (flaw : CertFlaw) → IsFlawed game bytes number flaw → (c : CertOf) → IsRightText game bytes c → ⊥
-flawed_apart game form bytes within number Form h c right =
-    let e = text_has_no_fault c bytes right.is_text (texts.NotCert number) h in absurd cc
-flawed_apart game form bytes within number Number h c right =
-    let e = text_has_no_fault c bytes right.is_text (texts.NumberTooBig number) h in absurd cc
-flawed_apart game form bytes within number Wrong h c right =
-    refused_apart game form bytes within c h.0 right h.1 (checks.Bad number) h.2
-flawed_apart game form bytes within number Wide h c right =
-    refused_apart game form bytes within c h.0 right h.1 (checks.Wide number) h.2
+-- the head of a profile's text is right, and narrow
+head_of : (game : GameOf) (bytes : Bytes) (mixtures : List MixtureOf) → (p : IsProfileText game bytes mixtures)
+    → (p.cert.players ≡ length game) × IsRightHead game p.cert.kind p.cert.verdict
+    × (HeadIsWide game p.cert.verdict → ⊥)
+head_of game bytes mixtures p = (
+  p.players,
+  subst (λ (v : VerdictOf). IsRightHead game p.cert.kind v) (sym p.verdict) p.right,
+  subst (λ (v : VerdictOf). HeadIsWide game v → ⊥) (sym p.verdict) p.narrow,
+)
 
--- ---- the check of what is told
+profile_apart : (game : GameOf) (bytes : Bytes) → length bytes ≤ cert_limit → (mixtures : List MixtureOf) (d : CertOf)
+    → IsProfileText game bytes mixtures → IsText d bytes → (fault : CertFault) → HeadRefused game d fault → ⊥
+profile_apart game bytes within mixtures d p t fault refused =
+    let same : p.cert ≡ d = one_text p.cert d p.is_text.0 t.0 (sym p.is_text.1 ∙ t.1) in
+    let pass = (head_is game p.cert (text_cert p.cert bytes p.is_text within)).1 (head_of game bytes mixtures p) in
+    head_apart game p.cert fault pass (subst (λ (x : CertOf). HeadRefused game x fault) (sym same) refused)
 
-module _ (words : Words) (contents : Contents) (source : SourceOf) (bytes : Bytes)
-    (told : IsToldCheck words contents source bytes) where
+refused_apart : (p : Purpose) (game : GameOf) → IsGame game → (bytes : Bytes) → length bytes ≤ cert_limit
+    → (d : CertOf) → IsText d bytes → (fault : CertFault) → IsRefusedFor p game d fault
+    → IsRightFor p game bytes → ⊥
+refused_apart for_check game form bytes within d t fault refused right =
+    right_apart game form bytes within right.0 d right.1 t fault refused
+refused_apart (for_best n) game form bytes within d t fault refused right =
+    profile_apart game bytes within right.0 d right.1 t fault refused
+
+-- what is right for a purpose is the text of some certificate
+text_of_right : (p : Purpose) (game : GameOf) (bytes : Bytes) → IsRightFor p game bytes
+    → (c : CertOf) × IsText c bytes
+text_of_right for_check game bytes right = (right.0, right.1.is_text)
+text_of_right (for_best n) game bytes right = (right.1.cert, right.1.is_text)
+
+-- a text that is refused isn't right for the purpose
+flawed_apart : (p : Purpose) (game : GameOf) → IsGame game → (bytes : Bytes) → length bytes ≤ cert_limit
+    → (number : ℕ) (flaw : CertFlaw) → IsFlawed p game bytes number flaw → IsRightFor p game bytes → ⊥
+flawed_apart p game form bytes within number Form h right =
+    let t = text_of_right p game bytes right in
+    let e = text_has_no_fault t.0 bytes t.1 (texts.NotCert number) h in absurd cc
+flawed_apart p game form bytes within number Number h right =
+    let t = text_of_right p game bytes right in
+    let e = text_has_no_fault t.0 bytes t.1 (texts.NumberTooBig number) h in absurd cc
+flawed_apart p game form bytes within number Wrong h right =
+    refused_apart p game form bytes within h.0 h.1 (checks.Bad number) h.2 right
+flawed_apart p game form bytes within number Wide h right =
+    refused_apart p game form bytes within h.0 h.1 (checks.Wide number) h.2 right
+
+-- ---- the certificate that is told
+
+-- best answers, or an end of their search, are done
+done_end : (end : End) (game : GameOf) (mixtures : List MixtureOf) (budget : ℕ)
+    → IsBestEnd game mixtures budget end → IsDone (for_best budget) (end_status end)
+done_end (ends.Budget limit) game mixtures budget h = inr (omega arith, omega arith)
+done_end (ends.Stuck asked) game mixtures budget h = inr (omega arith, omega arith)
+done_end (ends.Step wide) game mixtures budget h = inr (omega arith, omega arith)
+done_end (ends.Certificate number cert) game mixtures budget h = absurd h
+done_end (ends.Open i var dir named) game mixtures budget h = inr (omega arith, omega arith)
+done_end (ends.Large cells) game mixtures budget h = absurd h
+done_end (ends.Long bytes) game mixtures budget h = absurd h
+
+module _ (words : Words) (contents : Contents) (purpose : Purpose) (source : SourceOf) (bytes : Bytes)
+    (told : IsToldCert words contents purpose source bytes) where
   named : IsGameName words told.game_name
-  named = inr (inl (told.cert_name, told.check))
+  named = inr (inl (purpose, told.cert_name, told.asks))
 
   told_game : IsToldGame words contents told.game_bytes
   told_game = record { name = told.game_name; named = named; told = told.game_told }
 
-  due_game : (other : SourceOf) (name : Bytes) → IsDueCert words contents other name
-      → (other ≡ source) × (told.cert_name ≡ name)
-  due_game other name due =
-      let text = due_text words contents told.game_bytes told_game other name due in
-      let names = one_check words told.game_name told.cert_name due.game_name name told.check due.check in
-      (one_game told.game_bytes other source text told.text, names.1)
+  due_game : (p : Purpose) (other : SourceOf) (name : Bytes) → IsDueCert words contents p other name
+      → (p ≡ purpose) × (other ≡ source) × (told.cert_name ≡ name)
+  due_game p other name due =
+      let text = due_text words contents told.game_bytes told_game p other name due in
+      let names = one_purpose words p purpose due.game_name name told.game_name told.cert_name due.asks told.asks in
+      (names.0, one_game told.game_bytes other source text told.text, sym names.2)
 
-  asked_bytes : (other : SourceOf) (read : Bytes) → IsAskedCheck words contents other read
-      → (other ≡ source) × (bytes ≡ read)
-  asked_bytes other read asked =
-      let due = due_game other asked.name asked.due in
-      (due.0, named_content contents cert_limit told.cert_name bytes asked.name read told.cert_told due.1 asked.read.content)
+  asked_bytes : (p : Purpose) (other : SourceOf) (read : Bytes) → IsAskedCert words contents p other read
+      → (p ≡ purpose) × (other ≡ source) × (bytes ≡ read)
+  asked_bytes p other read asked =
+      let due = due_game p other asked.name asked.due in
+      (due.0, due.1, named_content contents cert_limit told.cert_name bytes asked.name read told.cert_told due.2 asked.read.content)
+
+  -- what comes of the certificate that was read comes of the one that was told
+  same_status : (p : Purpose) (other : SourceOf) (read : Bytes) → IsAskedCert words contents p other read
+      → (status : ℕ) → IsCertStatus p other read status → IsCertStatus purpose source bytes status
+  same_status p other read asked status h =
+      let same = asked_bytes p other read asked in
+      let here = subst (λ (q : Purpose). IsCertStatus q other read status) same.0 h in
+      let there = subst (λ (s : SourceOf). IsCertStatus purpose s read status) same.1 here in
+      subst (λ (b : Bytes). IsCertStatus purpose source b status) (sym same.2) there
 
   -- a printed answer comes of a right text
-  pub told_answer : (text : Bytes) → IsAnswer words contents text
-      → (cert : CertOf) × IsRightText (expansion source) bytes cert
+  pub told_answer : (text : Bytes) → IsAnswer words contents text → IsCertStatus purpose source bytes 0
   told_answer text (inl solved) =
-      absurd (no_solve words told.game_name told.cert_name Pure solved.name told.check solved.solve)
+      absurd (no_solve words purpose told.game_name told.cert_name Pure solved.name told.asks solved.solve)
   told_answer text (inr (inl checked)) =
-      let same = asked_bytes checked.source checked.bytes checked.asked in
-      let cert = checked.accepted.cert in
-      let here = subst (λ (s : SourceOf). IsRightText (expansion s) checked.bytes cert) same.0 checked.accepted.shown in
-      (cert, subst (λ (b : Bytes). IsRightText (expansion source) b cert) (sym same.1) here)
-  told_answer text (inr (inr migrated)) =
-      absurd (no_migrate words told.game_name told.cert_name migrated.name told.check migrated.migrate)
+      same_status for_check checked.source checked.bytes checked.asked 0
+      (inl (refl, (checked.accepted.cert, checked.accepted.shown)))
+  told_answer text (inr (inr (inl best))) =
+      same_status (for_best best.budget) best.source best.bytes best.asked 0
+      (inl (inl refl, (best.best.mixtures, best.best.profile)))
+  told_answer text (inr (inr (inr migrated))) =
+      absurd (no_migrate words purpose told.game_name told.cert_name migrated.name told.asks migrated.migrate)
 
-  -- a refusal that is no fault of shelf or sink says that no right text was told, or that memory was
-  -- wanting
+  -- a refusal that is no fault of shelf or sink says that no right text was told, that the search for
+  -- best answers came to an end, or that memory was wanting
   pub told_refusal : (refusal : Refusal) → IsCause words contents refusal
       → (status_of refusal ≡ 3 → ⊥) → (status_of refusal ≡ 12 → ⊥)
-      → IsCheckStatus source bytes (status_of refusal)
+      → IsCertStatus purpose source bytes (status_of refusal)
   told_refusal (Usage help) h three twelve =
       absurd (named_or_faulty words told.game_name named (faulty_of_help words contents help h))
   told_refusal (CannotRead text name) h three twelve = absurd (three refl)
@@ -248,20 +313,21 @@ module _ (words : Words) (contents : Contents) (source : SourceOf) (bytes : Byte
       let same = one_name words told.game_name name.now named h.due in
       absurd (not_more contents game_limit told.game_name told.game_bytes name.now told.game_told same h.more)
   told_refusal (TooLong Cert name) h three twelve =
-      let due = due_game h.due.0 name.now h.due.1 in
-      absurd (not_more contents cert_limit told.cert_name bytes name.now told.cert_told due.1 h.more)
+      let due = due_game h.due.0 h.due.1 name.now h.due.2 in
+      absurd (not_more contents cert_limit told.cert_name bytes name.now told.cert_told due.2 h.more)
   told_refusal (Faulty fault path) h three twelve =
       let same = game_read words contents told.game_bytes told_game h.name h.bytes h.named h.read.content in
       let text = subst (λ (b : Bytes). IsGameText b source) same told.text in
       absurd (game_or_fault h.bytes source fault (string_bytes path) text h.first)
   told_refusal (Flawed number flaw) h three twelve =
-      let same = asked_bytes h.source h.bytes h.asked in
-      let form = game_of_text told.game_bytes source told.text in
-      let here = subst (λ (s : SourceOf). IsFlawed (expansion s) h.bytes number flaw) same.0 h.flawed in
-      let flawed = subst (λ (b : Bytes). IsFlawed (expansion source) b number flaw) (sym same.1) here in
-      inr (inl (refl, flawed_apart (expansion source) form bytes told.cert_told.within number flaw flawed))
+      let form = game_of_text h.asked.due.bytes h.source h.asked.due.text in
+      same_status h.purpose h.source h.bytes h.asked 6
+      (inr (inl (refl, flawed_apart h.purpose (expansion h.source) form h.bytes h.asked.read.within number flaw h.flawed)))
+  told_refusal (Ended end) h three twelve =
+      same_status (for_best h.budget) h.source h.bytes h.asked (end_status end)
+      (inl (done_end end (expansion h.source) h.mixtures h.budget h.cause, (h.mixtures, h.profile)))
   told_refusal NoMemory h three twelve = inr (inr refl)
   told_refusal WriteFault h three twelve = absurd (twelve refl)
   told_refusal Unbuilt h three twelve = absurd (named_or_unbuilt words told.game_name named h)
   told_refusal UnbuiltGame h three twelve =
-      absurd (no_solve words told.game_name told.cert_name Pure h.name told.check h.solve)
+      absurd (no_solve words purpose told.game_name told.cert_name Pure h.name told.asks h.solve)

@@ -9,7 +9,8 @@ use Rattle.zr_io.specs.Written.{Appends, AppendsPrefix}
 use Rattle.zr_value.specs.Faults.{fault_name}
 use Rattle.zr_value.specs.declared.fault.GameFault.{GameFault}
 use Rattle.zr_value.specs.declared.fault.GameFault.TheVariants.{NotJson, Format, Missing, Kind, NotWhole, TooBig, BadName, Twice, UnknownName, PairLow, OwnCross, Count}
-use Rattle.zero.specs.Messages.{excess, message, fault_line, fault_text, flaw_line, flaw_name, long_line}
+use Rattle.zr_report.specs.declared.end.End.TheVariants as ends
+use Rattle.zero.specs.Messages.{end_line, excess, message, fault_line, fault_text, flaw_line, flaw_name, long_line, open_line}
 use Rattle.zr_io.proofs.AppendsLemmas.{appends_append, appends_prefix_append}
 
 -- a prefix of a piece is one of the piece and another
@@ -105,3 +106,26 @@ flaw_pieces number flaw name e =
 -- the line as what is written first, and all the rest
 pub flaw_start : (number : ℕ) (flaw : CertFlaw) → codes "zero: certificate: line " ++ (decimal number ++ ((codes ": " ++ flaw_name flaw) ++ 10 ∷ [])) ≡ flaw_line number flaw
 flaw_start number flaw = in_one (codes "zero: certificate: line ") (decimal number) (codes ": ") (flaw_name flaw) (10 ∷ [])
+
+-- ---- the line of an end
+
+number_in_two : (a d s e : Bytes) → (a ++ d) ++ (s ++ e) ≡ a ++ ((d ++ s) ++ e)
+number_in_two a d s e = simp append_assoc
+
+pub budget_pieces : (limit : ℕ)
+    → (codes "zero: budget of " ++ decimal limit) ++ codes " spent\n" ≡ end_line (ends.Budget limit)
+budget_pieces limit =
+    number_in_two (codes "zero: budget of ") (decimal limit) (codes " spent") (10 ∷ [])
+
+pub large_pieces : (n : ℕ)
+    → (codes "zero: too large: " ++ decimal n) ++ codes "\n" ≡ message (codes "too large: " ++ decimal n)
+large_pieces n = append_assoc (codes "zero: too large: ") (decimal n) (10 ∷ [])
+
+open_in_two : (a d v w e : Bytes) → ((a ++ d) ++ v) ++ (w ++ e) ≡ a ++ (((d ++ v) ++ w) ++ e)
+open_in_two a d v w e = simp append_assoc
+
+pub open_pieces : (player var : ℕ)
+    → ((codes "zero: open: player " ++ decimal player) ++ codes " variable ")
+    ++ ((codes "" ++ decimal var) ++ codes "\n") ≡ open_line player var
+open_pieces player var =
+    open_in_two (codes "zero: open: player ") (decimal player) (codes " variable ") (decimal var) (10 ∷ [])

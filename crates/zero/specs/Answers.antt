@@ -16,15 +16,19 @@ use Rattle.zr_read.specs.Texts.{StandsFor}
 use Rattle.zr_write.specs.Written.{IsWritten}
 use Rattle.zr_trial.specs.Reach.{IsWithinReach}
 use Rattle.zr_trial.specs.First.{IsFirstEquilibrium, pure_profile}
+use Rattle.zr_cert.specs.declared.fault.CertFault.{CertFault}
 use Rattle.zr_cert.specs.declared.fault.CertFault.TheVariants as checks
-use Rattle.zr_cert.specs.Certs.{BoxVerdict, CertOf, CoverVerdict, EmptyVerdict, ProfileVerdict, VerdictOf, profile_with}
+use Rattle.zr_cert.specs.Certs.{BoxVerdict, CertOf, CoverVerdict, EmptyVerdict, MixtureOf, ProfileVerdict, VerdictOf, profile_with}
 use Rattle.zr_check.specs.Right.{IsRightCert}
-use Rattle.zr_check.specs.Checks.{CertRefused}
+use Rattle.zr_check.specs.Checks.{CertRefused, HeadRefused}
 use Rattle.zr_check.specs.WideSteps.{HasWideStep}
 use Rattle.zr_text.specs.declared.fault.TextError.TheVariants as texts
 use Rattle.zr_text.specs.Faults.{IsText, IsTextFault}
+use Rattle.zr_report.specs.declared.end.End.{End}
+use Rattle.zr_report.specs.Spelling.{report_text}
 use Rattle.zr_words.specs.Words.{Words}
-use Rattle.zero.specs.Commands.{IsGameName, IsMigrate, IsSolve}
+use Rattle.zero.specs.BestTexts.{IsBestEnd, IsBestText, IsProfileText}
+use Rattle.zero.specs.Commands.{IsGameName, IsMigrate, IsSolve, Purpose, for_best, for_check}
 use Rattle.zero.specs.Games.{HasGameFault, IsGameText}
 use Rattle.zero.specs.Reads.{IsDueCert, IsRead, cert_limit, game_limit}
 use Rattle.zero.specs.ShortText.{line, none_text, profile_text}
@@ -100,19 +104,40 @@ pub record IsAccepted (source : SourceOf) (bytes text : Bytes) : Type 0 where
   pub truth : IsTrueOf source cert.kind cert.verdict
   pub answer : text ≡ accepted_text cert
 
--- the words ask for a check, the game text that was read stands for the game, and these bytes of a
--- certificate were read
-pub record IsAskedCheck (words : Words) (contents : Contents) (source : SourceOf) (bytes : Bytes)
-    : Type 0 where
+-- the words ask for this with a certificate, the game text that was read stands for the game, and
+-- these bytes of a certificate were read
+pub record IsAskedCert (words : Words) (contents : Contents) (purpose : Purpose) (source : SourceOf)
+    (bytes : Bytes) : Type 0 where
   pub name : Bytes
-  pub due : IsDueCert words contents source name
+  pub due : IsDueCert words contents purpose source name
   pub read : IsRead contents cert_limit name bytes
 
 pub record IsChecked (words : Words) (contents : Contents) (text : Bytes) : Type 0 where
   pub source : SourceOf
   pub bytes : Bytes
-  pub asked : IsAskedCheck words contents source bytes
+  pub asked : IsAskedCert words contents for_check source bytes
   pub accepted : IsAccepted source bytes text
+
+-- ---- best answers
+
+-- the words ask for best answers to the profile of the certificate that was read, in the game with
+-- its followers' conditions
+pub record IsBestAnswered (words : Words) (contents : Contents) (text : Bytes) : Type 0 where
+  pub budget : ℕ
+  pub source : SourceOf
+  pub bytes : Bytes
+  pub asked : IsAskedCert words contents (for_best budget) source bytes
+  pub best : IsBestText (expansion source) bytes text
+
+-- they ask for them, and the work comes to this end
+pub record IsEnded (words : Words) (contents : Contents) (end : End) : Type 0 where
+  pub budget : ℕ
+  pub source : SourceOf
+  pub bytes : Bytes
+  pub asked : IsAskedCert words contents (for_best budget) source bytes
+  pub mixtures : List MixtureOf
+  pub profile : IsProfileText (expansion source) bytes mixtures
+  pub cause : IsBestEnd (expansion source) mixtures budget end
 
 -- ---- migrate
 
@@ -137,12 +162,18 @@ pub record IsMigrated (words : Words) (contents : Contents) (text : Bytes) : Typ
 -- a true answer to the words
 abbrev pub IsAnswer : Words → Contents → Bytes → Type 0
 IsAnswer words contents text =
-    IsSolved words contents text ⊎ IsChecked words contents text ⊎ IsMigrated words contents text
+    IsSolved words contents text ⊎ IsChecked words contents text
+    ⊎ IsBestAnswered words contents text ⊎ IsMigrated words contents text
 
--- a prefix of a true answer went to the end of what was written before
+-- a true report of why there is none
+abbrev pub IsReport : Words → Contents → Bytes → Type 0
+IsReport words contents text =
+    (end : End) × IsEnded words contents end × (text ≡ report_text end)
+
+-- a prefix of a true answer, or of a true report, went to the end of what was written before
 pub record HasBegun (words : Words) (contents : Contents) (before after : Option Bytes) : Type 0 where
   pub text : Bytes
-  pub answer : IsAnswer words contents text
+  pub true_text : IsAnswer words contents text ⊎ IsReport words contents text
   pub written : AppendsPrefix before text after
 
 -- the game text that was read has this first fault
@@ -164,18 +195,27 @@ pub record IsUnbuiltGame (words : Words) (contents : Contents) : Type 0 where
   pub game : IsGameText bytes source
   pub far : IsWithinReach (expansion source) → ⊥
 
+-- a line of the certificate is the first to be refused; for best answers the lines are those of the
+-- players and their parts, and a verdict that is no profile is refused too
+abbrev pub IsRefusedFor : Purpose → GameOf → CertOf → CertFault → Type 0
+IsRefusedFor for_check game c fault = CertRefused game c fault
+IsRefusedFor (for_best budget) game c fault = HeadRefused game c fault
+
 -- why a certificate text is refused at a line: it is out of form, a number's size alone is at fault,
 -- or the certificate that it is breaks a rule there or has a step that is too wide
-abbrev pub IsFlawed : GameOf → Bytes → ℕ → CertFlaw → Type 0
-IsFlawed game bytes number Form = IsTextFault bytes (texts.NotCert number)
-IsFlawed game bytes number Number = IsTextFault bytes (texts.NumberTooBig number)
-IsFlawed game bytes number Wrong = (c : CertOf) × IsText c bytes × CertRefused game c (checks.Bad number)
-IsFlawed game bytes number Wide = (c : CertOf) × IsText c bytes × CertRefused game c (checks.Wide number)
+abbrev pub IsFlawed : Purpose → GameOf → Bytes → ℕ → CertFlaw → Type 0
+IsFlawed purpose game bytes number Form = IsTextFault bytes (texts.NotCert number)
+IsFlawed purpose game bytes number Number = IsTextFault bytes (texts.NumberTooBig number)
+IsFlawed purpose game bytes number Wrong =
+    (c : CertOf) × IsText c bytes × IsRefusedFor purpose game c (checks.Bad number)
+IsFlawed purpose game bytes number Wide =
+    (c : CertOf) × IsText c bytes × IsRefusedFor purpose game c (checks.Wide number)
 
 -- the certificate that was read is refused at this line
 pub record IsRefusedCert (words : Words) (contents : Contents) (number : ℕ) (flaw : CertFlaw)
     : Type 0 where
+  pub purpose : Purpose
   pub source : SourceOf
   pub bytes : Bytes
-  pub asked : IsAskedCheck words contents source bytes
-  pub flawed : IsFlawed (expansion source) bytes number flaw
+  pub asked : IsAskedCert words contents purpose source bytes
+  pub flawed : IsFlawed purpose (expansion source) bytes number flaw

@@ -3,6 +3,8 @@ pub mod Games
 pub mod ShortText
 pub mod Reads
 pub mod Messages
+pub mod BestTexts
 pub mod Answers
 pub mod Refusals
+pub mod Outcomes
 pub mod Told

@@ -5,6 +5,8 @@ use Rattle.zr_io.specs.Contents.{Bytes}
 use Rattle.zr_value.specs.declared.fault.GameFault.{GameFault}
 use Rattle.zr_value.specs.declared.fault.GameFault.TheVariants.{NotJson}
 use Rattle.zr_value.specs.Faults.{fault_name}
+use Rattle.zr_report.specs.declared.end.End.{End}
+use Rattle.zr_report.specs.declared.end.End.TheVariants as ends
 use Rattle.zero.specs.declared.refusal.CertFlaw.{CertFlaw}
 use Rattle.zero.specs.declared.refusal.CertFlaw.TheVariants.{Form, Number, Wrong, Wide}
 use Rattle.zero.specs.declared.text.Text.{Text}
@@ -42,3 +44,18 @@ flaw_name Wide = codes "wide"
 -- the line of a certificate's first line that is refused
 abbrev pub flaw_line : ℕ → CertFlaw → Bytes
 flaw_line number flaw = message (codes "certificate: line " ++ decimal number ++ codes ": " ++ flaw_name flaw)
+
+-- the line of a whole variable that is open
+abbrev pub open_line : ℕ → ℕ → Bytes
+open_line player var =
+    message (codes "open: player " ++ decimal player ++ codes " variable " ++ decimal var)
+
+-- the line of work that came to an end without an answer
+abbrev pub end_line : End → Bytes
+end_line (ends.Budget limit) = message (codes "budget of " ++ decimal limit ++ codes " spent")
+end_line (ends.Stuck asked) = message (codes "too wide")
+end_line (ends.Step wide) = message (codes "too wide")
+end_line (ends.Certificate number cert) = message (codes "too wide")
+end_line (ends.Open player var dir named) = open_line player var
+end_line (ends.Large cells) = message (codes "too large: " ++ decimal cells)
+end_line (ends.Long bytes) = message (codes "too large: " ++ decimal bytes)

@@ -6,7 +6,7 @@ use Rattle.zr_source.specs.Sources.{SourceOf}
 use Rattle.zr_words.specs.Words.{Words}
 use Rattle.zero.specs.declared.text.Text.{Text}
 use Rattle.zero.specs.declared.text.Text.TheVariants.{Game, Cert}
-use Rattle.zero.specs.Commands.{IsCheck, IsGameName}
+use Rattle.zero.specs.Commands.{IsGameName, IsPurpose, Purpose}
 use Rattle.zero.specs.Games.{IsGameText}
 
 -- the greatest length of a game text
@@ -56,12 +56,12 @@ IsMore contents limit name = (get : Bytes → Option Bytes) → contents ≡ Som
 
 -- ---- names
 
--- the words ask for a check of the certificate under this name, and the game text that was read
+-- the words ask for this with the certificate under this name, and the game text that was read
 -- stands for the game
-pub record IsDueCert (words : Words) (contents : Contents) (source : SourceOf) (name : Bytes)
-    : Type 0 where
+pub record IsDueCert (words : Words) (contents : Contents) (purpose : Purpose) (source : SourceOf)
+    (name : Bytes) : Type 0 where
   pub game_name : Bytes
-  pub check : IsCheck words game_name name
+  pub asks : IsPurpose words purpose game_name name
   pub bytes : Bytes
   pub read : IsRead contents game_limit game_name bytes
   pub text : IsGameText bytes source
@@ -70,7 +70,8 @@ pub record IsDueCert (words : Words) (contents : Contents) (source : SourceOf) (
 -- stands for a game
 abbrev pub IsDue : Words → Contents → Text → Bytes → Type 0
 IsDue words contents Game name = IsGameName words name
-IsDue words contents Cert name = (source : SourceOf) × IsDueCert words contents source name
+IsDue words contents Cert name =
+    (purpose : Purpose) × (source : SourceOf) × IsDueCert words contents purpose source name
 
 -- a text that is due is too long
 pub record IsLong (words : Words) (contents : Contents) (text : Text) (name : Bytes) : Type 0 where

@@ -1,22 +1,44 @@
 -- Why the program refuses, and what it says and ends with then.
-use Rattle.std.specs.Prelude.{◌≡◌, ◌≢◌, ◌⊎◌, ℕ, ◌≤◌, ◌++◌, codes, String, string_bytes, Option, Some, None, Result, IfErr}
+use Rattle.std.specs.Prelude.{◌≡◌, ◌≢◌, ◌⊎◌, ℕ, ◌≤◌, ◌++◌, codes, String, string_bytes, List, Option, Some, None, Result, IfErr}
 use Rattle.std.specs.declared.alloc.Global.{Global}
+use Rattle.zr_game.specs.Players.{GameOf}
+use Rattle.zr_cert.specs.Certs.{MixtureOf}
 use Rattle.zr_io.specs.Contents.{Bytes, Contents}
 use Rattle.zr_io.specs.Faults.{Rose}
+use Rattle.zr_io.specs.Written.{Appends, AppendsPrefix}
+use Rattle.zr_report.specs.declared.end.End.{End}
+use Rattle.zr_report.specs.declared.end.End.TheVariants as ends
+use Rattle.zr_report.specs.Spelling.{report_text}
 use Rattle.zero.specs.declared.refusal.Refusal.{Refusal}
-use Rattle.zero.specs.declared.refusal.Refusal.TheVariants.{Usage, CannotRead, TooLong, Faulty, Flawed, NoMemory, WriteFault, Unbuilt, UnbuiltGame}
+use Rattle.zero.specs.declared.refusal.Refusal.TheVariants.{Usage, CannotRead, TooLong, Faulty, Flawed, Ended, NoMemory, WriteFault, Unbuilt, UnbuiltGame}
 use Rattle.zero.specs.declared.text.Text.{Text}
 use Rattle.zero.specs.declared.text.Text.TheVariants.{Game, Cert}
 use Rattle.zr_words.specs.Words.{Words}
 use Rattle.zr_words.specs.declared.reading.Refused.{Refused}
 use Rattle.zr_words.specs.declared.reading.Refused.TheVariants as words
 use Rattle.zr_words.specs.Commands.{AreOfNoAction, IsMisspelt}
+use Rattle.zero.specs.BestTexts.{IsBestEnd, IsProfileText}
 use Rattle.zero.specs.Commands.{IsGameName, IsUnbuiltCommand}
 use Rattle.zero.specs.Reads.{IsDue, IsLastTake, IsLong}
-use Rattle.zero.specs.Answers.{IsFaultyGame, IsRefusedCert, IsUnbuiltGame}
-use Rattle.zero.specs.Messages.{fault_line, flaw_line, long_line, message}
+use Rattle.zero.specs.Answers.{IsEnded, IsFaultyGame, IsRefusedCert, IsUnbuiltGame}
+use Rattle.zero.specs.Messages.{end_line, fault_line, flaw_line, long_line, message}
 
 -- ---- what each refusal is
+
+-- the status to end with where work came to an end without an answer: the budget was spent, a program
+-- or a step was too wide, a whole variable was open, or a system or a text was too large
+abbrev pub end_status : End → ℕ
+end_status (ends.Budget limit) = 7
+end_status (ends.Stuck asked) = 8
+end_status (ends.Step wide) = 8
+end_status (ends.Certificate number cert) = 8
+end_status (ends.Open player var dir named) = 9
+end_status (ends.Large cells) = 10
+end_status (ends.Long bytes) = 10
+
+-- the status is one of these
+abbrev pub IsEndStatus : ℕ → Type 0
+IsEndStatus status = (7 ≤ status) × (status ≤ 10)
 
 -- the status to end with
 abbrev pub status_of : Refusal → ℕ
@@ -25,6 +47,7 @@ status_of (CannotRead text name) = 3
 status_of (TooLong text name) = 4
 status_of (Faulty fault path) = 5
 status_of (Flawed number flaw) = 6
+status_of (Ended end) = end_status end
 status_of NoMemory = 11
 status_of WriteFault = 12
 status_of Unbuilt = 16
@@ -42,6 +65,7 @@ line_of (CannotRead text name) = message (codes "cannot read " ++ name.now)
 line_of (TooLong text name) = long_line text name.now
 line_of (Faulty fault path) = fault_line fault (string_bytes path)
 line_of (Flawed number flaw) = flaw_line number flaw
+line_of (Ended end) = end_line end
 line_of NoMemory = message (codes "no memory")
 line_of WriteFault = message (codes "write fault")
 line_of Unbuilt = message (codes "not built yet")
@@ -64,6 +88,7 @@ IsCause words contents (CannotRead text name) = IsDue words contents text name.n
 IsCause words contents (TooLong text name) = IsLong words contents text name.now
 IsCause words contents (Faulty fault path) = IsFaultyGame words contents fault (string_bytes path)
 IsCause words contents (Flawed number flaw) = IsRefusedCert words contents number flaw
+IsCause words contents (Ended end) = IsEnded words contents end
 IsCause words contents NoMemory = Unit {0}
 IsCause words contents WriteFault = NamesGame words
 IsCause words contents Unbuilt = IsUnbuiltCommand words
@@ -76,6 +101,7 @@ HasTaken before after (CannotRead text name) = IsLastTake text before after
 HasTaken before after (TooLong text name) = IsLastTake text before after
 HasTaken before after (Faulty fault path) = IsLastTake Game before after
 HasTaken before after (Flawed number flaw) = IsLastTake Cert before after
+HasTaken before after (Ended end) = IsLastTake Cert before after
 HasTaken before after NoMemory = Unit {0}
 HasTaken before after WriteFault = Unit {0}
 HasTaken before after Unbuilt = after ≡ before
@@ -109,6 +135,39 @@ abbrev pub refusal_for : Refused → Refusal
 refusal_for (words.Form text) = Usage (Some text)
 refusal_for words.Action = Usage None
 refusal_for words.NoMemory = NoMemory
+
+-- where work came to an end without an answer, the report of it was written whole
+abbrev pub HasReported : Option Bytes → Option Bytes → Refusal → Type 0
+HasReported before after (Usage help) = Unit {0}
+HasReported before after (CannotRead text name) = Unit {0}
+HasReported before after (TooLong text name) = Unit {0}
+HasReported before after (Faulty fault path) = Unit {0}
+HasReported before after (Flawed number flaw) = Unit {0}
+HasReported before after (Ended end) = Appends before (report_text end) after
+HasReported before after NoMemory = Unit {0}
+HasReported before after WriteFault = Unit {0}
+HasReported before after Unbuilt = Unit {0}
+HasReported before after UnbuiltGame = Unit {0}
+
+-- the refusal once the report of an end was to be written: the end where it was written whole, else
+-- want of memory or a fault of what it is written to, after a prefix of it
+pub record IsReported (end : End) (before after : Option Bytes) (old new : ℕ) (refusal : Refusal)
+    : Type 0 where
+  pub refusal_is : (refusal ≡ Ended end) ⊎ (refusal ≡ NoMemory) ⊎ (refusal ≡ WriteFault)
+  pub written : HasReported before after refusal
+  pub begun : refusal ≢ Ended end → AppendsPrefix before (report_text end) after
+  pub failed : refusal ≡ WriteFault → Rose old new
+
+-- a refusal that comes of the search for best answers: want of memory, or the search's end
+abbrev pub ComesOfSearch : GameOf → List MixtureOf → ℕ → Refusal → Type 0
+ComesOfSearch game mixtures budget refusal = (refusal ≡ NoMemory)
+    ⊎ ((end : End) × (refusal ≡ Ended end) × IsBestEnd game mixtures budget end)
+
+-- the same for the profile of these bytes
+abbrev pub IsStopped : GameOf → Bytes → ℕ → Refusal → Type 0
+IsStopped game bytes budget refusal =
+    (mixtures : List MixtureOf) × IsProfileText game bytes mixtures
+    × ComesOfSearch game mixtures budget refusal
 
 -- a refusal that comes of a text that was taken
 pub record ComesOf (text : Text) (refusal : Refusal) : Type 0 where

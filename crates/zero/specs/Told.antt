@@ -1,14 +1,16 @@
 -- What comes of texts that the shelf tells.
-use Rattle.std.specs.Prelude.{◌≡◌, ℕ, ◌⊎◌}
+use Rattle.std.specs.Prelude.{◌≡◌, ℕ, ◌≤◌, ◌⊎◌, List}
 use Rattle.zr_io.specs.Contents.{Bytes, Contents}
 use Rattle.zr_game.specs.declared.kind.Kind.TheVariants.{Pure}
 use Rattle.zr_source.specs.Sources.{SourceOf}
 use Rattle.zr_follow.specs.Expansion.{expansion}
 use Rattle.zr_value.specs.declared.fault.GameFault.{GameFault}
 use Rattle.zr_trial.specs.Reach.{IsWithinReach}
-use Rattle.zr_cert.specs.Certs.{CertOf}
+use Rattle.zr_game.specs.Players.{GameOf}
+use Rattle.zr_cert.specs.Certs.{CertOf, MixtureOf}
 use Rattle.zr_words.specs.Words.{Words}
-use Rattle.zero.specs.Commands.{IsCheck, IsGameName, IsMigrate, IsSolve}
+use Rattle.zero.specs.BestTexts.{IsProfileText}
+use Rattle.zero.specs.Commands.{IsGameName, IsMigrate, IsPurpose, IsSolve, Purpose, for_best, for_check}
 use Rattle.zero.specs.Games.{HasGameFault, IsGameText}
 use Rattle.zero.specs.Reads.{IsTold, cert_limit, game_limit}
 use Rattle.zero.specs.Answers.{IsRightText}
@@ -37,21 +39,33 @@ pub record IsGameStatus (words : Words) (bytes : Bytes) (status : ℕ) : Type 0 
 
 -- ---- the certificate
 
--- the words ask for a check of two texts that are told, and the game's stands for the game
-pub record IsToldCheck (words : Words) (contents : Contents) (source : SourceOf) (bytes : Bytes)
-    : Type 0 where
+-- the words ask for this with two texts that are told, and the game's stands for the game
+pub record IsToldCert (words : Words) (contents : Contents) (purpose : Purpose) (source : SourceOf)
+    (bytes : Bytes) : Type 0 where
   pub game_name : Bytes
   pub cert_name : Bytes
-  pub check : IsCheck words game_name cert_name
+  pub asks : IsPurpose words purpose game_name cert_name
   pub game_bytes : Bytes
   pub game_told : IsTold contents game_limit game_name game_bytes
   pub text : IsGameText game_bytes source
   pub cert_told : IsTold contents cert_limit cert_name bytes
 
--- its status is 0 where the bytes are the text of a certificate that is right for the game with its
--- followers' conditions, and 6 where they are of none; want of memory is free
-abbrev pub IsCheckStatus : SourceOf → Bytes → ℕ → Type 0
-IsCheckStatus source bytes status =
-    ((status ≡ 0) × (cert : CertOf) × IsRightText (expansion source) bytes cert)
-    ⊎ ((status ≡ 6) × ((cert : CertOf) → IsRightText (expansion source) bytes cert → ⊥))
+-- the bytes are right for the purpose: the text of a certificate that is right for the game, or whose
+-- verdict is a profile of right strategies
+abbrev pub IsRightFor : Purpose → GameOf → Bytes → Type 0
+IsRightFor for_check game bytes = (cert : CertOf) × IsRightText game bytes cert
+IsRightFor (for_best budget) game bytes =
+    (mixtures : List MixtureOf) × IsProfileText game bytes mixtures
+
+-- a check is answered; best answers are given, or the search for them came to an end
+abbrev pub IsDone : Purpose → ℕ → Type 0
+IsDone for_check status = status ≡ 0
+IsDone (for_best budget) status = (status ≡ 0) ⊎ ((7 ≤ status) × (status ≤ 9))
+
+-- the status is one of these where the bytes are right for the purpose in the game with its
+-- followers' conditions, and 6 where they aren't; want of memory is free
+abbrev pub IsCertStatus : Purpose → SourceOf → Bytes → ℕ → Type 0
+IsCertStatus purpose source bytes status =
+    (IsDone purpose status × IsRightFor purpose (expansion source) bytes)
+    ⊎ ((status ≡ 6) × (IsRightFor purpose (expansion source) bytes → ⊥))
     ⊎ (status ≡ 11)

@@ -10,6 +10,7 @@ ghost use Rattle.zero.specs.Reads.{Lacks};
 ghost use Rattle.zero.specs.Refusals.{ComesOfWords, HasTaken, IsCause, Keeps, refusal_for, status_of};
 ghost use Rattle.zero.specs.Told.{IsStatus};
 
+use crate::best::best;
 use crate::check::check;
 use crate::migrate::migrate;
 use crate::refusal::Refusal;
@@ -42,6 +43,11 @@ pub fn answer_to<'w, S: Shelf>(
             Kind::Mixed => Err(Refusal::Unbuilt),
         },
         Command::Check { game, cert } => check(alloc, game, cert, shelf),
+        Command::Best {
+            game,
+            cert,
+            options,
+        } => best(alloc, game, cert, options.budget, shelf),
         Command::Migrate { game } => migrate(alloc, game, shelf),
     }
 }

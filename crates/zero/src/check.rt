@@ -1,6 +1,5 @@
 ghost use Rattle.std.specs.Prelude.{◌≡◌, ◌≢◌, ◌≤◌, IfOk, IfErr, IsErrAnd, length};
 ghost use Rattle.zr_game.specs.Games.{game_of};
-ghost use Rattle.zr_source.specs.Sources.{SourceOf};
 ghost use Rattle.zr_follow.specs.Expansion.{expansion};
 ghost use Rattle.zr_read.specs.Texts.{source_of};
 ghost use Rattle.zr_io.specs.Contents.{Contents};
@@ -8,19 +7,18 @@ ghost use Rattle.zr_cert.specs.Certs.{verdict_of};
 ghost use Rattle.zr_cert.specs.Listed.{cert_of};
 ghost use Rattle.zr_text.specs.Faults.{IsText};
 ghost use Rattle.zr_words.specs.Words.{Words};
-ghost use Rattle.zero.specs.Commands.{IsCheck};
-ghost use Rattle.zero.specs.Answers.{IsAccepted, IsAnswer, IsAskedCheck, accepted_text, kind_name, verdict_name};
+ghost use Rattle.zero.specs.Commands.{IsCheck, for_check};
+ghost use Rattle.zero.specs.declared.text.Text.TheVariants as kept;
+ghost use Rattle.zero.specs.Answers.{IsAccepted, IsAnswer, IsAskedCert, accepted_text, kind_name, verdict_name};
 ghost use Rattle.zero.specs.Reads.{Lacks, cert_limit};
 ghost use Rattle.zero.specs.Refusals.{ComesOf, HasTaken, IsCause, Keeps, status_of};
 
-use crate::reading::{Reading, content_of, reading_in};
+use crate::reading::{Reading, both_texts, cert_in};
 use crate::refusal::{CertFlaw, Refusal};
-use crate::text::Text;
 use std::alloc::Global;
 use zr_check::{Cert, CertFault, Verdict, check_cert, scratch_for};
 use zr_game::Kind;
 use zr_io::Shelf;
-use zr_text::{TextError, read_cert};
 
 /// The text that says that the certificate is accepted for the game, each under its name.
 pub fn check<'w, S: Shelf>(
@@ -40,10 +38,8 @@ pub fn check<'w, S: Shelf>(
     ensures taken { IfErr result (HasTaken (S.takes_of shelf.old) (S.takes_of shelf.new)) }
     ensures unwritten { IfErr result (λ refusal. status_of refusal ≢ 12) }
 {
-    let game_text = content_of(shelf, game_name, Text::Game)?;
-    let reading = reading_in(alloc, game_text.as_slice())?;
-    let cert_text = content_of(shelf, cert_name, Text::Cert)?;
-    accept(alloc, &reading, cert_text.as_slice())
+    let texts = both_texts(alloc, game_name, cert_name, shelf)?;
+    accept(alloc, &texts.reading, texts.cert.as_slice())
 }
 
 /// The text that says that the bytes are the text of a certificate that is accepted for the game.
@@ -53,9 +49,9 @@ fn accept<'w>(alloc: Global, reading: &Reading, bytes: &[u8]) -> Result<Vec<u8>,
     ensures ok { IfOk result (λ text.
         IsAccepted (source_of reading.now.source) bytes.now text.items) }
     ensures err { (words : Words) (contents : Contents)
-        → IsAskedCheck words contents (source_of reading.now.source) bytes.now
+        → IsAskedCert words contents for_check (source_of reading.now.source) bytes.now
         → IfErr result (IsCause words contents) }
-    ensures comes { IfErr result (ComesOf Text.Cert) }
+    ensures comes { IfErr result (ComesOf kept.Cert) }
 {
     let cert = cert_in(alloc, bytes)?;
     let game = &reading.game;
@@ -66,22 +62,6 @@ fn accept<'w>(alloc: Global, reading: &Reading, bytes: &[u8]) -> Result<Vec<u8>,
         Ok(()) => accepted(alloc, &cert),
         Err(CertFault::Bad(line)) => Err(CertFlaw::Wrong.at(line)),
         Err(CertFault::Wide(line)) => Err(CertFlaw::Wide.at(line)),
-    }
-}
-
-/// The certificate whose text the bytes are.
-fn cert_in<'w>(alloc: Global, bytes: &[u8]) -> Result<Cert, Refusal<'w>>
-    requires { length bytes.now ≤ cert_limit }
-    ensures ok { IfOk result (λ cert. IsText (cert_of cert) bytes.now) }
-    ensures err { (words : Words) (contents : Contents) (source : SourceOf)
-        → IsAskedCheck words contents source bytes.now → IfErr result (IsCause words contents) }
-    ensures comes { IfErr result (ComesOf Text.Cert) }
-{
-    match read_cert(alloc, bytes) {
-        Ok(cert) => Ok(cert),
-        Err(TextError::NotCert(line)) => Err(CertFlaw::Form.at(line)),
-        Err(TextError::NumberTooBig(line)) => Err(CertFlaw::Number.at(line)),
-        Err(TextError::NoMemory) => Err(Refusal::NoMemory),
     }
 }
 

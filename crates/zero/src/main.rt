@@ -1,14 +1,18 @@
 //! Equilibria of integer programming games, and the check of certificates.
 //!
 //! `zero solve GAME --kind pure` decides whether a game has an equilibrium in which each player
-//! plays one point. `zero check GAME CERT` tells whether a certificate is right for a game.
+//! plays one point. `zero check GAME CERT` tells whether a certificate is right for a game, and
+//! `zero best GAME CERT` what each player can get at best against a certificate's profile.
 //! `zero migrate GAME` writes a game's text in today's form. GAME and CERT are files, or `-` for
 //! standard input.
 #![tactic(auto)]
 
 mod answer;
+mod best;
 mod check;
+mod ended;
 mod migrate;
+mod pieces;
 mod reading;
 mod refusal;
 mod run;

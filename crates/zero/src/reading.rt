@@ -1,4 +1,4 @@
-ghost use Rattle.std.specs.Prelude.{◌≡◌, ◌≢◌, ◌⊎◌, ℕ, IfOk, IfErr, IsErrAnd, String as AString, string_bytes};
+ghost use Rattle.std.specs.Prelude.{◌≡◌, ◌≢◌, ◌≤◌, ◌⊎◌, ℕ, IfOk, IfErr, OnOk, IsErrAnd, String as AString, length, string_bytes};
 ghost use Rattle.std.specs.declared.alloc.Global.{Global as AGlobal};
 ghost use Rattle.zr_game.specs.Games.{game_of};
 ghost use Rattle.zr_io.specs.Contents.{Bytes, Contents};
@@ -7,25 +7,69 @@ ghost use Rattle.zr_follow.specs.Expansion.{IsFirstPast, expansion};
 ghost use Rattle.zr_read.specs.Texts.{StandsFor, source_of};
 ghost use Rattle.zr_value.specs.declared.fault.GameFault.TheVariants.{Count};
 ghost use Rattle.zr_words.specs.Words.{Words};
-ghost use Rattle.zero.specs.Commands.{IsGameName};
+ghost use Rattle.zr_source.specs.Sources.{SourceOf};
+ghost use Rattle.zr_cert.specs.Listed.{cert_of};
+ghost use Rattle.zr_text.specs.Faults.{IsText};
+ghost use Rattle.zero.specs.Answers.{IsAskedCert};
+ghost use Rattle.zero.specs.Commands.{IsGameName, IsPurpose, Purpose};
 ghost use Rattle.zero.specs.Games.{IsExpandable, IsReading, followers_path};
-ghost use Rattle.zero.specs.Reads.{IsDue, IsLastTake, IsRead, Lacks, game_limit, limit_of};
+ghost use Rattle.zero.specs.Reads.{IsDue, IsLastTake, IsRead, Lacks, cert_limit, game_limit, limit_of};
 ghost use Rattle.zero.specs.Refusals.{ComesOf, HasTaken, IsCause, Keeps, status_of};
 
-use crate::refusal::Refusal;
+use crate::refusal::{CertFlaw, Refusal};
 use crate::text::Text;
 use std::alloc::Global;
+use zr_cert::Cert;
 use zr_follow::{FollowError, expand};
 use zr_game::Game;
 use zr_io::{Shelf, ShelfError};
 use zr_read::{GameError, GameFault, read_game};
 use zr_source::Source;
+use zr_text::{TextError, read_cert};
 
 /// A game as it was read, and the same with its followers' conditions.
 #[derive(Drop)]
 pub struct Reading {
     pub source: Source,
     pub game: Game,
+}
+
+/// A game as it was read, and the bytes of a certificate's text.
+#[derive(Drop)]
+pub struct Texts {
+    pub reading: Reading,
+    pub cert: Vec<u8>,
+}
+
+/// The game under one name, and the bytes of the certificate's text under another.
+pub fn both_texts<'w, S: Shelf>(
+    alloc: Global,
+    game_name: &'w str,
+    cert_name: &'w str,
+    shelf: &mut S,
+) -> Result<Texts, Refusal<'w>>
+    ensures game { IfOk result (λ texts. game_of texts.reading.game
+        ≡ expansion (source_of texts.reading.source)) }
+    ensures within { IfOk result (λ texts. length texts.cert.items ≤ cert_limit) }
+    ensures asked { (words : Words) (purpose : Purpose)
+        → IsPurpose words purpose game_name.now cert_name.now
+        → IfOk result (λ texts. IsAskedCert words (S.contents shelf.old) purpose
+        (source_of texts.reading.source) texts.cert.items) }
+    ensures err { (words : Words) (purpose : Purpose)
+        → IsPurpose words purpose game_name.now cert_name.now
+        → IfErr result (IsCause words (S.contents shelf.old)) }
+
+    ensures keeps { Keeps S.contents S.faults_of shelf.old shelf.new result }
+    ensures lacks { Lacks (S.contents shelf.old) game_name.now
+        → IsErrAnd result (λ refusal. status_of refusal ≡ 3) }
+    ensures last { OnOk result (IsLastTake Text.Cert (S.takes_of shelf.old) (S.takes_of shelf.new)) }
+    ensures taken { IfErr result (HasTaken (S.takes_of shelf.old) (S.takes_of shelf.new)) }
+    ensures unwritten { IfErr result (λ refusal. status_of refusal ≢ 12) }
+{
+    let game_text = content_of(shelf, game_name, Text::Game)?;
+    let reading = reading_in(alloc, game_text.as_slice())?;
+    let cert = content_of(shelf, cert_name, Text::Cert)?;
+    Ok(Texts { reading, cert })
 }
 
 /// The content of this name, which is taken once.
@@ -108,5 +152,22 @@ fn too_many<'w>(alloc: Global, i: u32) -> Refusal<'w>
             path,
         },
         Err(_) => Refusal::NoMemory,
+    }
+}
+
+/// The certificate whose text the bytes are.
+pub fn cert_in<'w>(alloc: Global, bytes: &[u8]) -> Result<Cert, Refusal<'w>>
+    requires { length bytes.now ≤ cert_limit }
+    ensures ok { IfOk result (λ cert. IsText (cert_of cert) bytes.now) }
+    ensures err { (words : Words) (contents : Contents) (purpose : Purpose) (source : SourceOf)
+        → IsAskedCert words contents purpose source bytes.now
+        → IfErr result (IsCause words contents) }
+    ensures comes { IfErr result (ComesOf Text.Cert) }
+{
+    match read_cert(alloc, bytes) {
+        Ok(cert) => Ok(cert),
+        Err(TextError::NotCert(line)) => Err(CertFlaw::Form.at(line)),
+        Err(TextError::NumberTooBig(line)) => Err(CertFlaw::Number.at(line)),
+        Err(TextError::NoMemory) => Err(Refusal::NoMemory),
     }
 }

@@ -1,12 +1,14 @@
-ghost use Rattle.std.specs.Prelude.{◌≡◌, ◌<◌, ◌≤◌, ◌+◌, ◌++◌, ◌∷◌, [], Err, OnOk, OnErr};
-ghost use Rattle.zr_form.specs.Numbers.{decimal};
+ghost use Rattle.std.specs.Prelude.{◌≡◌, ◌≤◌, Err, OnOk, OnErr};
 ghost use Rattle.zr_io.specs.Faults.{Rose};
 ghost use Rattle.zr_io.specs.Written.{Appends, AppendsPrefix};
 ghost use Rattle.zero.specs.Messages.{fault_line, flaw_line, flaw_name};
 ghost use Rattle.zero.specs.Refusals.{line_of, status_of, usage_text};
 
+use crate::ended::{put_end, status_of_end};
+use crate::pieces::{put_both, put_named, put_number};
 use crate::text::Text;
 use zr_io::{Sink, SinkError, put_all};
+use zr_report::End;
 use zr_value::GameFault;
 
 /// Why a line of a certificate's text is refused.
@@ -56,6 +58,8 @@ pub enum Refusal<'a> {
     Faulty { fault: GameFault, path: String },
     /// The certificate's text is refused at this line, the first one that is, counted from 1.
     Flawed { line: u32, flaw: CertFlaw },
+    /// The work came to this end without an answer.
+    Ended { end: End },
     /// There was no memory.
     NoMemory,
     /// The answer couldn't be written.
@@ -77,6 +81,7 @@ impl Refusal<'_> {
             Refusal::TooLong { .. } => 4,
             Refusal::Faulty { .. } => 5,
             Refusal::Flawed { .. } => 6,
+            Refusal::Ended { end } => status_of_end(end),
             Refusal::NoMemory => 11,
             Refusal::WriteFault => 12,
             Refusal::Unbuilt | Refusal::UnbuiltGame => 16,
@@ -100,6 +105,7 @@ impl Refusal<'_> {
             Refusal::TooLong { text, name } => put_named(err, "zero: ", name, text.excess()),
             Refusal::Faulty { fault, path } => put_fault(err, *fault, path.as_str()),
             Refusal::Flawed { line, flaw } => put_flaw(err, *line, *flaw),
+            Refusal::Ended { end } => put_end(err, end),
             Refusal::NoMemory => put_all(err, b"zero: no memory\n"),
             Refusal::WriteFault => put_all(err, b"zero: write fault\n"),
             Refusal::Unbuilt | Refusal::UnbuiltGame => put_all(err, b"zero: not built yet\n"),
@@ -146,58 +152,6 @@ fn put_flaw<E: Sink>(err: &mut E, line: u32, flaw: CertFlaw) -> Result<(), SinkE
     ensures grows { E.faults_of err.old ≤ E.faults_of err.new }
 {
     put_all(err, b"zero: certificate: line ")?;
-    put_number(err, line)?;
+    put_number(err, line as u128)?;
     put_named(err, ": ", flaw.name(), "\n")
-}
-
-/// The digits of a number.
-fn put_number<E: Sink>(err: &mut E, number: u32) -> Result<(), SinkError>
-    ensures ok { OnOk result (Appends (E.written err.old) (decimal number) (E.written err.new)) }
-    ensures err { OnErr result (AppendsPrefix (E.written err.old) (decimal number)
-        (E.written err.new)) }
-    ensures failed { result ≡ Err SinkError.Failed → Rose (E.faults_of err.old) (E.faults_of err.new) }
-    ensures grows { E.faults_of err.old ≤ E.faults_of err.new }
-{
-    if number < 10 {
-        return put_digit(err, number);
-    }
-    put_number(err, number / 10)?;
-    put_digit(err, number % 10)
-}
-
-/// The digit of a number below 10.
-fn put_digit<E: Sink>(err: &mut E, digit: u32) -> Result<(), SinkError>
-    requires { digit < 10 }
-    ensures ok { OnOk result (Appends (E.written err.old) ((48 + digit) ∷ []) (E.written err.new)) }
-    ensures err { OnErr result (AppendsPrefix (E.written err.old) ((48 + digit) ∷ [])
-        (E.written err.new)) }
-    ensures failed { result ≡ Err SinkError.Failed → Rose (E.faults_of err.old) (E.faults_of err.new) }
-    ensures grows { E.faults_of err.old ≤ E.faults_of err.new }
-{
-    put_all(err, &[b'0' + digit as u8])
-}
-
-/// A name between two texts.
-fn put_named<E: Sink>(err: &mut E, before: &str, name: &str, after: &str) -> Result<(), SinkError>
-    ensures ok { OnOk result (Appends (E.written err.old) (before.now ++ name.now ++ after.now)
-        (E.written err.new)) }
-    ensures err { OnErr result (AppendsPrefix (E.written err.old) (before.now ++ name.now ++ after.now)
-        (E.written err.new)) }
-    ensures failed { result ≡ Err SinkError.Failed → Rose (E.faults_of err.old) (E.faults_of err.new) }
-    ensures grows { E.faults_of err.old ≤ E.faults_of err.new }
-{
-    put_both(err, before, name)?;
-    put_all(err, after.as_bytes())
-}
-
-/// One text and then another.
-fn put_both<E: Sink>(err: &mut E, first: &str, second: &str) -> Result<(), SinkError>
-    ensures ok { OnOk result (Appends (E.written err.old) (first.now ++ second.now) (E.written err.new)) }
-    ensures err { OnErr result (AppendsPrefix (E.written err.old) (first.now ++ second.now)
-        (E.written err.new)) }
-    ensures failed { result ≡ Err SinkError.Failed → Rose (E.faults_of err.old) (E.faults_of err.new) }
-    ensures grows { E.faults_of err.old ≤ E.faults_of err.new }
-{
-    put_all(err, first.as_bytes())?;
-    put_all(err, second.as_bytes())
 }

@@ -9,16 +9,20 @@ ghost use Rattle.zero.specs.declared.text.Text.{Text as Kept};
 ghost use Rattle.zero.specs.declared.text.Text.TheVariants.{Game, Cert};
 ghost use Rattle.zr_words.specs.Words.{spelled};
 ghost use Rattle.zr_words.specs.Commands.{IsFaulty};
-ghost use Rattle.zero.specs.Commands.{IsGameName, IsUnbuiltCommand};
-ghost use Rattle.zero.specs.Answers.{HasBegun, IsAnswer, IsFaultyGame, IsRefusedCert, IsUnbuiltGame};
+ghost use Rattle.zr_report.specs.Spelling.{report_text};
+ghost use Rattle.zr_report.specs.declared.end.End.{End as EndView};
+ghost use Rattle.zero.specs.Commands.{IsGameName, IsUnbuiltCommand, Purpose};
+ghost use Rattle.zero.specs.Answers.{HasBegun, IsAnswer, IsEnded, IsFaultyGame, IsRefusedCert, IsUnbuiltGame};
 ghost use Rattle.zero.specs.Reads.{IsDue, IsLastTake, IsLong, Lacks};
-ghost use Rattle.zero.specs.Refusals.{HasTaken, IsCause, IsLine, Keeps, status_of};
-ghost use Rattle.zero.specs.Told.{IsCheckStatus, IsGameStatus, IsStatus, IsToldCheck, IsToldGame};
+ghost use Rattle.zero.specs.Refusals.{HasReported, HasTaken, IsCause, IsEndStatus, IsLine, IsReported, Keeps, end_status, status_of};
+ghost use Rattle.zero.specs.Outcomes.{IsOutcome};
+ghost use Rattle.zero.specs.Told.{IsCertStatus, IsGameStatus, IsStatus, IsToldCert, IsToldGame};
 
 use crate::answer::answer_to;
 use crate::refusal::Refusal;
 use std::alloc::Global;
 use zr_io::{Shelf, Sink, SinkError, put_all};
+use zr_report::{End, write_report};
 
 /// Does what the words ask for, and gives the status to end with.
 ///
@@ -34,6 +38,9 @@ use zr_io::{Shelf, Sink, SinkError, put_all};
 /// | 4 | the game text is longer than 8,388,608 bytes, or the certificate's than 67,108,864 |
 /// | 5 | the game text has a fault, the first of which is named with its path |
 /// | 6 | the certificate is refused, and its first line that is so is named |
+/// | 7 | the budget was spent, and the report that says so was written whole, as under 8 and 9 |
+/// | 8 | a linear program or a step of arithmetic was too wide |
+/// | 9 | a ray changes a whole variable, and the least cost is open |
 /// | 11 | there was no memory |
 /// | 12 | `out` failed |
 /// | 16 | the words or the game are of a kind that isn't built yet |
@@ -67,6 +74,10 @@ pub fn zero_run<S: Shelf, O: Sink, E: Sink>(
     ensures refused { result ≡ 6 → (number : ℕ) × (flaw : CertFlaw)
         × IsRefusedCert (spelled words.now) (S.contents shelf.old) number flaw
         × IsLastTake Cert (S.takes_of shelf.old) (S.takes_of shelf.new) }
+    ensures ended { IsEndStatus result → (end : EndView) × (result ≡ end_status end)
+        × IsEnded (spelled words.now) (S.contents shelf.old) end
+        × IsLastTake Cert (S.takes_of shelf.old) (S.takes_of shelf.new)
+        × Appends (O.written out.old) (report_text end) (O.written out.new) }
     ensures unwritten { result ≡ 12 → Rose (O.faults_of out.old) (O.faults_of out.new)
         × HasBegun (spelled words.now) (S.contents shelf.old)
         (O.written out.old) (O.written out.new) }
@@ -85,16 +96,18 @@ pub fn zero_run<S: Shelf, O: Sink, E: Sink>(
 
     // A check of texts that are told, within their limits, of which the game's stands for a game,
     // with no fault of the shelf or of `out`: it ends with 0 exactly where the certificate is right
-    // and no step of its check is too wide, and else with 6, but for want of memory.
-    ensures told { (source : SourceOf) (bytes : Bytes)
-        → IsToldCheck (spelled words.now) (S.contents shelf.old) source bytes
+    // and no step of its check is too wide, and else with 6, but for want of memory. Best answers to
+    // a profile come so too, or to one of the ends 7 to 9, exactly where its strategies are right.
+    ensures told { (purpose : Purpose) (source : SourceOf) (bytes : Bytes)
+        → IsToldCert (spelled words.now) (S.contents shelf.old) purpose source bytes
         → (Rose (S.faults_of shelf.old) (S.faults_of shelf.new) → ⊥)
         → (Rose (O.faults_of out.old) (O.faults_of out.new) → ⊥)
-        → IsCheckStatus source bytes result }
+        → IsCertStatus purpose source bytes result }
 
-    // What was written where there is none: no status but 11 and 12 leaves a part of an answer.
+    // What was written where there is none: a report with 7 to 10, and no other status but 11 and 12
+    // leaves a part of an answer or of a report.
     ensures begun { result ≢ 0 → (O.written out.new ≡ O.written out.old)
-        ⊎ (((result ≡ 11) ⊎ (result ≡ 12))
+        ⊎ IsEndStatus result ⊎ (((result ≡ 11) ⊎ (result ≡ 12))
         × HasBegun (spelled words.now) (S.contents shelf.old)
         (O.written out.old) (O.written out.new)) }
     ensures quiet { result ≡ 0 → E.written err.new ≡ E.written err.old }
@@ -139,16 +152,47 @@ fn answer<'w, S: Shelf, O: Sink>(
         → Rose (O.faults_of out.old) (O.faults_of out.new)
         × HasBegun (spelled words.now) (S.contents shelf.old)
         (O.written out.old) (O.written out.new)) }
+    ensures reported { IfErr result (HasReported (O.written out.old) (O.written out.new)) }
     ensures begun { IfErr result (λ refusal. (O.written out.new ≡ O.written out.old)
-        ⊎ (((status_of refusal ≡ 11) ⊎ (status_of refusal ≡ 12))
+        ⊎ IsEndStatus (status_of refusal) ⊎ (((status_of refusal ≡ 11) ⊎ (status_of refusal ≡ 12))
         × HasBegun (spelled words.now) (S.contents shelf.old)
         (O.written out.old) (O.written out.new))) }
     ensures counts { O.faults_of out.old ≤ O.faults_of out.new }
 {
-    let text = answer_to(alloc, words, shelf)?;
+    match answer_to(alloc, words, shelf) {
+        Ok(text) => match put_all(out, text.as_slice()) {
+            Ok(()) => Ok(()),
+            Err(SinkError::Failed) => Err(Refusal::WriteFault),
+            Err(SinkError::NoMemory) => Err(Refusal::NoMemory),
+        },
+        Err(refusal) => Err(reported(alloc, refusal, out)),
+    }
+}
+
+/// Writes the report of a refusal that is an end, and gives the refusal that goes with it then.
+fn reported<'w, O: Sink>(alloc: Global, refusal: Refusal<'w>, out: &mut O) -> Refusal<'w>
+    ensures outcome { IsOutcome refusal.entry result (O.written out.old) (O.written out.new)
+        (O.faults_of out.old) (O.faults_of out.new) }
+    ensures counts { O.faults_of out.old ≤ O.faults_of out.new }
+{
+    match refusal {
+        Refusal::Ended { end } => report(alloc, end, out),
+        other => other,
+    }
+}
+
+/// Writes the report of an end, and gives the refusal that goes with it then.
+fn report<'w, O: Sink>(alloc: Global, end: End, out: &mut O) -> Refusal<'w>
+    ensures reported { IsReported end (O.written out.old) (O.written out.new)
+        (O.faults_of out.old) (O.faults_of out.new) result }
+    ensures counts { O.faults_of out.old ≤ O.faults_of out.new }
+{
+    let Ok(text) = write_report(alloc, &end) else {
+        return Refusal::NoMemory;
+    };
     match put_all(out, text.as_slice()) {
-        Ok(()) => Ok(()),
-        Err(SinkError::Failed) => Err(Refusal::WriteFault),
-        Err(SinkError::NoMemory) => Err(Refusal::NoMemory),
+        Ok(()) => Refusal::Ended { end },
+        Err(SinkError::Failed) => Refusal::WriteFault,
+        Err(SinkError::NoMemory) => Refusal::NoMemory,
     }
 }

@@ -1,3 +1,4 @@
+mod best;
 mod certificates;
 mod covers;
 mod faults;
@@ -226,7 +227,7 @@ fn words_of_no_action_are_refused(rt: HostRuntime) -> Result<(), Fail> {
         "solve g h",
         "check g",
         "migrate g h",
-        "best g c",
+        "best g",
         "play g",
         "gen knapsack 7",
         "select g",

@@ -3,8 +3,8 @@ use Rattle.zr_io.specs.Contents.{Bytes}
 use Rattle.zr_game.specs.declared.kind.Kind.TheVariants.{Pure}
 use Rattle.zr_words.specs.Words.{spelled}
 use Rattle.zr_words.specs.Commands.{Asks}
-use Rattle.zr_words.specs.declared.command.Command.TheVariants.{Solve, Check, Migrate}
-use Rattle.zero.specs.Commands.{IsCheck, IsMigrate, IsSolve}
+use Rattle.zr_words.specs.declared.command.Command.TheVariants.{Solve, Check, Best, Migrate}
+use Rattle.zero.specs.Commands.{IsBest, IsCheck, IsMigrate, IsSolve, for_best, for_check}
 use Rattle.zero.specs.Reads.{Lacks}
 use Rattle.zero.specs.Refusals.{status_of}
 use Rattle.zero.specs.Told.{IsStatus}
@@ -90,10 +90,35 @@ returns-in-Check-clause-lacks g c = λ name named lacks.
       subst (Asks words) c.in-Check.is c.in_ok-game.ensures.ok,
       (refl, refl),
     ) in
-    let same = one_name words name c.in-Check.game.now named (inr (inl (c.in-Check.cert.now, asks))) in
+    let same = one_name words name c.in-Check.game.now named (inr (inl (for_check, c.in-Check.cert.now, asks))) in
     let here = subst (λ (n : Bytes). Lacks (g.S.Shelf.contents c.args.shelf.now) n) same lacks in
     err_and c.check.result (λ refusal. status_of refusal ≡ 3) (λ refusal. IsStatus 3 (status_of refusal))
     (λ refusal e. inl e) (c.check.ensures.lacks here)
+
+-- ---- best answers
+
+pub returns-in-Best-clause-err : goal.returns-in-Best-clause-err
+returns-in-Best-clause-err g c =
+    let words = spelled c.args.words.now in
+    c.best.ensures.err words (
+      Best c.in-Best.game c.in-Best.cert c.in-Best.options,
+      subst (Asks words) c.in-Best.is c.in_ok-game.ensures.ok,
+      (refl, refl, refl),
+    )
+
+pub returns-in-Best-clause-lacks : goal.returns-in-Best-clause-lacks
+returns-in-Best-clause-lacks g c = λ name named lacks.
+    let words = spelled c.args.words.now in
+    let budget = c.in-Best.options.budget in
+    let asks : IsBest words budget c.in-Best.game.now c.in-Best.cert.now = (
+      Best c.in-Best.game c.in-Best.cert c.in-Best.options,
+      subst (Asks words) c.in-Best.is c.in_ok-game.ensures.ok,
+      (refl, refl, refl),
+    ) in
+    let same = one_name words name c.in-Best.game.now named (inr (inl (for_best budget, c.in-Best.cert.now, asks))) in
+    let here = subst (λ (n : Bytes). Lacks (g.S.Shelf.contents c.args.shelf.now) n) same lacks in
+    err_and c.best.result (λ refusal. status_of refusal ≡ 3) (λ refusal. IsStatus 3 (status_of refusal))
+    (λ refusal e. inl e) (c.best.ensures.lacks here)
 
 -- ---- the text in today's form
 

@@ -6,6 +6,7 @@ use Rattle.zr_check.specs.Right.{IsRightCert}
 use Rattle.zr_check.specs.Truth.{IsTrueVerdict}
 use Rattle.zr_check.specs.WideSteps.{HasWideStep}
 use Rattle.zr_read.specs.Texts.{source_of}
+use Rattle.zero.specs.Commands.{for_check}
 use Rattle.zero.specs.Answers.{IsAccepted, accepted_text}
 use Rattle.zero.specs.Refusals.{ComesOf, IsCause}
 use Rattle.zero.specs.declared.refusal.Refusal.TheVariants.{NoMemory}
@@ -35,7 +36,7 @@ returns-in-Ok-check_cert-clause-ok c =
 
 pub returns-in_err-cert-clause-err : goal.returns-in_err-cert-clause-err
 returns-in_err-cert-clause-err c = λ words contents asked.
-    let h = c.in_err-cert.ensures.err words contents (source_of c.args.reading.now.source) asked in
+    let h = c.in_err-cert.ensures.err words contents for_check (source_of c.args.reading.now.source) asked in
     search (rules, h)
 
 pub returns-in-Ok-check_cert-clause-err : goal.returns-in-Ok-check_cert-clause-err

@@ -17,10 +17,10 @@ returns-clause-ok g c = λ words asks.
     let contents = g.S.Shelf.contents c.args.shelf.now in
     let bytes = c.as_slice.result.now in
     if_ok c.migrated.result (λ text. IsSameGame bytes text.items) (λ text. IsAnswer words contents text.items)
-    (λ text same. inr (inr (record {
+    (λ text same. inr (inr (inr (record {
       name = c.args.name.now;
       bytes = bytes;
       migrate = asks;
       read = search rules;
       same = same;
-    }))) c.migrated.ensures.ok
+    })))) c.migrated.ensures.ok

@@ -2,7 +2,7 @@ use Rattle.std.proofs.Common.{arith, ◌≡◌, ◌+◌, ◌*◌, ◌/◌, ◌%�
 use Rattle.zr_form.specs.Numbers.{decimal}
 use Rattle.zr_form.proofs.Numbers.{decimal_more_is, decimal_small}
 use Rattle.zero.proofs.WritingLemmas.{err_same, err_then, first_prefix, ok_same, ok_then, on_err}
-use Rattle.zero.proofs.refusal.+put_number.Goals as goal
+use Rattle.zero.proofs.pieces.+put_number.Goals as goal
 
 pub returns-then-number-lt10-clause-ok : goal.returns-then-number-lt10-clause-ok
 returns-then-number-lt10-clause-ok g t c =

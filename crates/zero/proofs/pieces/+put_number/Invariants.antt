@@ -1,4 +1,4 @@
-use Rattle.zero.proofs.refusal.+put_number.Given as goal
+use Rattle.zero.proofs.pieces.+put_number.Given as goal
 
 -- proposed from what the function passes where it calls itself
 abbrev pub decreases-put_number : goal.decreases-put_number

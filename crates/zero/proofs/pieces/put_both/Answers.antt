@@ -1,6 +1,6 @@
 use Rattle.std.proofs.Common.{◌++◌, ap₂}
 use Rattle.zero.proofs.WritingLemmas.{ok_then, err_then}
-use Rattle.zero.proofs.refusal.put_both.Goals as goal
+use Rattle.zero.proofs.pieces.put_both.Goals as goal
 
 pub returns-clause-ok : goal.returns-clause-ok
 returns-clause-ok g c =

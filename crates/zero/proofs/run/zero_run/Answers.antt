@@ -1,11 +1,12 @@
-use Rattle.std.proofs.Common.{refl, sym, ◌∙◌, subst, inl}
+use Rattle.std.proofs.Common.{◌≡◌, ◌⊎◌, refl, sym, ◌∙◌, subst}
 use Rattle.zr_words.specs.Words.{spelled}
-use Rattle.zero.specs.Refusals.{line_of}
-use Rattle.zero.specs.Told.{IsCheckStatus, IsGameStatus, IsStatus}
+use Rattle.zero.specs.Answers.{HasBegun}
+use Rattle.zero.specs.Refusals.{IsEndStatus, line_of}
+use Rattle.zero.specs.Told.{IsCertStatus, IsGameStatus, IsStatus}
 use Rattle.zero.proofs.CauseLemmas.{names_of_answer}
 use Rattle.zero.proofs.CommandLemmas.{named_or_faulty, named_or_unbuilt}
 use Rattle.zero.proofs.StatusLemmas.{faulty_status, unbuilt_status, usage_of}
-use Rattle.zero.proofs.LineLemmas.{fault_of, flaw_of, long_of, unbuilt_of, unread_of}
+use Rattle.zero.proofs.LineLemmas.{ended_of, fault_of, flaw_of, long_of, unbuilt_of, unread_of}
 use Rattle.zero.proofs.ToldLemmas.{answer_status, refusal_status, told_answer, told_refusal}
 use Rattle.zero.proofs.WritingLemmas.{line_written}
 use Rattle.zero.proofs.run.zero_run.Goals as goal
@@ -35,6 +36,18 @@ returns-in-Err-clause-faulty g c = λ five.
 pub returns-in-Err-clause-refused : goal.returns-in-Err-clause-refused
 returns-in-Err-clause-refused g c = λ six.
     flaw_of (spelled c.args.words.now) (g.S.Shelf.contents c.args.shelf.now) _ _ c.in-Err.refusal c.in-Err.ensures.err c.in-Err.ensures.taken (sym c.status.ensures ∙ six)
+
+pub returns-in-Err-clause-ended : goal.returns-in-Err-clause-ended
+returns-in-Err-clause-ended g c = λ ends.
+    let is = subst IsEndStatus c.status.ensures ends in
+    let h = ended_of (spelled c.args.words.now) (g.S.Shelf.contents c.args.shelf.now) _ _ (g.O.Sink.written c.args.out.now) (g.O.Sink.written c.answer.new.out) c.in-Err.refusal c.in-Err.ensures.err c.in-Err.ensures.taken c.in-Err.ensures.reported is in
+    (h.0, c.status.ensures ∙ h.1, h.2, h.3, h.4)
+
+pub returns-in-Err-clause-begun : goal.returns-in-Err-clause-begun
+returns-in-Err-clause-begun g c = λ other.
+    let before = g.O.Sink.written c.args.out.now in
+    let after = g.O.Sink.written c.answer.new.out in
+    subst (λ s. (after ≡ before) ⊎ IsEndStatus s ⊎ (((s ≡ 11) ⊎ (s ≡ 12)) × HasBegun (spelled c.args.words.now) (g.S.Shelf.contents c.args.shelf.now) before after)) (sym c.status.ensures) c.in-Err.ensures.begun
 
 pub returns-in-Err-clause-unbuilt : goal.returns-in-Err-clause-unbuilt
 returns-in-Err-clause-unbuilt g c = λ sixteen.
@@ -86,14 +99,13 @@ returns-in-Err-clause-told_game g c = λ bytes told shelf out.
     subst (IsGameStatus words bytes) (sym c.status.ensures) (refusal_status words contents bytes told refusal c.in-Err.ensures.err (λ three. shelf (c.in-Err.ensures.keeps.unread three)) (λ twelve. out (c.in-Err.ensures.unwritten twelve).0))
 
 pub returns-in-Ok-clause-told : goal.returns-in-Ok-clause-told
-returns-in-Ok-clause-told g c = λ source bytes told shelf out.
+returns-in-Ok-clause-told g c = λ purpose source bytes told shelf out.
     let text = c.in-Ok.ensures.ok in
-    let right = told_answer (spelled c.args.words.now) (g.S.Shelf.contents c.args.shelf.now) source bytes told text.0 text.1 in
-    inl (refl, right.0, right.1)
+    told_answer (spelled c.args.words.now) (g.S.Shelf.contents c.args.shelf.now) purpose source bytes told text.0 text.1
 
 pub returns-in-Err-clause-told : goal.returns-in-Err-clause-told
-returns-in-Err-clause-told g c = λ source bytes told shelf out.
+returns-in-Err-clause-told g c = λ purpose source bytes told shelf out.
     let words = spelled c.args.words.now in
     let contents = g.S.Shelf.contents c.args.shelf.now in
     let refusal = c.in-Err.refusal in
-    subst (IsCheckStatus source bytes) (sym c.status.ensures) (told_refusal words contents source bytes told refusal c.in-Err.ensures.err (λ three. shelf (c.in-Err.ensures.keeps.unread three)) (λ twelve. out (c.in-Err.ensures.unwritten twelve).0))
+    subst (IsCertStatus purpose source bytes) (sym c.status.ensures) (told_refusal words contents purpose source bytes told refusal c.in-Err.ensures.err (λ three. shelf (c.in-Err.ensures.keeps.unread three)) (λ twelve. out (c.in-Err.ensures.unwritten twelve).0))
