@@ -12,7 +12,7 @@ use Rattle.zr_decide.specs.declared.stop.DecideStop.{DecideStop}
 use Rattle.zr_decide.specs.declared.stop.DecideStop.TheVariants as AStop
 use Rattle.zr_decide.specs.Causes.{IsDecideCause}
 use Rattle.zr_decide.specs.Coverings.{IsCoverStop}
-use Rattle.zr_decide.specs.Decided.{AreDecidedCovers, decided_leaves}
+use Rattle.zr_decide.specs.Decided.{AreSmallCovers, AreDecidedCovers, decided_leaves}
 use Rattle.zr_decide.specs.Later.{IsBoundsStop, IsLaterCause, IsSearchStop, IsSizeStop, LaterWork, SpendsLaterWork}
 use Rattle.zr_decide.specs.Works.{AreCaseUnits, DecideWork, HasMoreDecideWork, SpendsDecideWork}
 use Rattle.zr_decide.proofs.Working.{all_work, loose, loose_open, loose_units, more_left, no_work}
@@ -150,25 +150,6 @@ module _ (game : GameOf) (kind : Kind) where
   }
 
   module _ (trees : List TreeOf) (decided : AreDecidedCovers game trees) (old new : Purse) where
-    pub search_cause : (stop : DecideStop)
-        → IsSearchStop game (decided_leaves game trees) kind old new stop
-        → IsLaterCause game kind old new stop
-    search_cause AStop.Spent h =
-        let z = loose_units game in
-        let m = h.1.1 in (
-          h.0,
-          (
-            no_bounds (case_units (decided_leaves game trees) h.1.0.tree)
-                (inr (trees, decided, h.1.0, refl)),
-            omega (arith, z, m),
-          ),
-        )
-    search_cause (AStop.Wide asked) h = inr (inl (trees, decided, h))
-    search_cause (AStop.Step wide) h = absurd h
-    search_cause (AStop.Endless k var dir named) h = absurd h
-    search_cause (AStop.TooLarge cells) h = absurd h
-    search_cause AStop.NoMemory h = tt
-
     pub size_cause : (stop : DecideStop) → IsSizeStop game trees stop
         → IsLaterCause game kind old new stop
     size_cause AStop.Spent h = absurd h
@@ -178,6 +159,26 @@ module _ (game : GameOf) (kind : Kind) where
     size_cause (AStop.TooLarge cells) h = (trees, decided, h.0, h.1)
     size_cause AStop.NoMemory h = tt
 
+  module _ (trees : List TreeOf) (small : AreSmallCovers game trees) (old new : Purse) where
+    pub search_cause : (stop : DecideStop)
+        → IsSearchStop game (decided_leaves game trees) kind old new stop
+        → IsLaterCause game kind old new stop
+    search_cause AStop.Spent h =
+        let z = loose_units game in
+        let m = h.1.1 in (
+          h.0,
+          (
+            no_bounds (case_units (decided_leaves game trees) h.1.0.tree)
+                (inr (trees, small, h.1.0, refl)),
+            omega (arith, z, m),
+          ),
+        )
+    search_cause (AStop.Wide asked) h = inr (inl (trees, small, h))
+    search_cause (AStop.Step wide) h = absurd h
+    search_cause (AStop.Endless k var dir named) h = absurd h
+    search_cause (AStop.TooLarge cells) h = absurd h
+    search_cause AStop.NoMemory h = tt
+
     pub search_spends : SpendsCases game (decided_leaves game trees) kind old new
         → SpendsLaterWork game kind old new
     search_spends h = record {
@@ -186,13 +187,13 @@ module _ (game : GameOf) (kind : Kind) where
       pivots = h.pivots;
       branches = h.branches;
       work = no_bounds (case_units (decided_leaves game trees) h.work.tree)
-          (inr (trees, decided, h.work, refl));
+          (inr (trees, small, h.work, refl));
       units_are = (let z = loose_units game in let u = h.units_are in omega (arith, z, u));
     }
 
   -- ---- bounds
 
-  module _ (trees : List TreeOf) (decided : AreDecidedCovers game trees) (old mid new : Purse)
+  module _ (trees : List TreeOf) (small : AreSmallCovers game trees) (old mid new : Purse)
       (a : SpendsCases game (decided_leaves game trees) kind old mid) where
     pub with_bounds : SpendsBestWork game mid new → SpendsLaterWork game kind old new
     with_bounds b = record {
@@ -202,7 +203,7 @@ module _ (game : GameOf) (kind : Kind) where
       branches = (let p = a.branches in let q = b.branches in omega (arith, p, q));
       work = record {
         cases = case_units (decided_leaves game trees) a.work.tree;
-        cases_are = inr (trees, decided, a.work, refl);
+        cases_are = inr (trees, small, a.work, refl);
         bounds = b.trees;
         bounds_are = b.open_are;
       };
@@ -218,7 +219,7 @@ module _ (game : GameOf) (kind : Kind) where
         let m = h.1.2 in
         let work : LaterWork game kind = record {
           cases = case_units (decided_leaves game trees) a.work.tree;
-          cases_are = inr (trees, decided, a.work, refl);
+          cases_are = inr (trees, small, a.work, refl);
           bounds = h.1.0;
           bounds_are = h.1.1;
         } in

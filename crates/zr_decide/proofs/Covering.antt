@@ -20,7 +20,7 @@ use Rattle.zr_cert.specs.Lines.{sum_lines, tree_lines}
 use Rattle.zr_cover.specs.Covers.{HasNoLoose, IsExactCoverOf}
 use Rattle.zr_decide.specs.declared.covers.WholeRay.{WholeRay}
 use Rattle.zr_decide.specs.Coverings.{AreCoversTo, HasPointForm, IsCoverOf, IsFirstOpen, IsOpenCover, ShowsEmpty}
-use Rattle.zr_decide.specs.Decided.{IsDecidedCover, IsWholeRay}
+use Rattle.zr_decide.specs.Decided.{IsDecidedCover, IsDrawnWholeRay}
 use Rattle.zr_decide.proofs.CoverNodes.{cover_nodes, empty_nodes, refuted_tree}
 use Rattle.zr_decide.proofs.Lists.{get_front, get_last, get_old, pushed}
 use Rattle.zr_decide.proofs.Working.{more_work, no_work}
@@ -37,7 +37,7 @@ exact_is game sound i player is old new tree cover whole points =
     record {
       tree = t;
       listed = cover.1;
-      decided = inl record { cover = c.cover; exact = c.exact; open_is = c.open_is; drawn = c.drawn };
+      made = inl record { cover = c.cover; exact = c.exact; open_is = c.open_is; drawn = c.drawn };
       form = record {
         whole = whole;
         each = subst (All IsCoverNode) cover.1
@@ -49,12 +49,12 @@ exact_is game sound i player is old new tree cover whole points =
     }
 
 pub loose_is : (i : ℕ) (player : PlayerOf) (ray : WholeRay) → ray.player ≡ i
-    → IsWholeRay player ray.var ray.dir.items → (nodes : List NodeOf) → nodes ≡ LooseNode ∷ []
+    → IsDrawnWholeRay player ray.var ray.dir.items → (nodes : List NodeOf) → nodes ≡ LooseNode ∷ []
     → IsTree nodes → IsCoverOf player i nodes (Some ray)
 loose_is i player ray is fact nodes e whole = record {
   tree = Loose;
   listed = sym e;
-  decided = inr (refl, ray.var, ray.dir.items, fact);
+  made = inr (refl, (ray.dir.items, ray.var, fact.0));
   form = record {
     whole = whole;
     each = subst (All IsCoverNode) (sym e) (All-push IsCoverNode [] LooseNode (All-nil IsCoverNode) tt);
@@ -91,7 +91,14 @@ sum_push (y ∷ ys) x = let r = sum_push ys x in omega (arith, r)
 
 module _ (game : GameOf) (i : ℕ) (player : PlayerOf) (is : IsPlayer game i player)
     (covers : List Tree) (ray : Option WholeRay) (before : AreCoversTo game i covers ray)
-    (cover : Tree) (found : Option WholeRay) (made : IsCoverOf player i (nodes_of cover) found) where
+    (cover : Tree) (found : Option WholeRay) (made : IsCoverOf player i (nodes_of cover) found)
+    (leaf : 1 ≤ leaf_count (nodes_of cover)) where
+  with_leaf : IsDecidedCover player made.tree
+  with_leaf =
+      ⊎_elim
+      (λ s. inl (s, subst (λ (ns : List NodeOf). 1 ≤ leaf_count ns) (sym made.listed) leaf))
+      (λ r. inr r) made.made
+
   abbrev trees : List TreeOf
   trees = before.trees ++ made.tree ∷ []
 
@@ -103,7 +110,7 @@ module _ (game : GameOf) (i : ℕ) (player : PlayerOf) (is : IsPlayer game i pla
   decided = pushed (λ k t. (p : PlayerOf) → IsPlayer game k p → IsDecidedCover p t) before.trees
       made.tree (λ k t e p h. before.each k p t h e)
       (λ p h. subst (λ (q : PlayerOf). IsDecidedCover q made.tree)
-      (same_player p (subst (λ n. IsPlayer game n p) before.len h)) made.decided)
+      (same_player p (subst (λ n. IsPlayer game n p) before.len h)) with_leaf)
 
   below_len : (k : ℕ) (t : TreeOf) → slice_get before.trees k ≡ Some t → k < length before.trees
   below_len k t e = slice_get_within before.trees k t e
@@ -202,7 +209,7 @@ shows_empty game i player is nodes found made none few = record {
         ⊎_elim (λ s. refuted_tree player (root_leaf player) made.tree s.cover no_leaf)
         (λ s. absurd (let e = sym (ap (λ (t : TreeOf). leaf_count (preorder t)) s.0) ∙ no_leaf in
         omega (arith, e)))
-        made.decided
+        made.made
 
 -- a test that fails tells that there is none
 pub none_of : (b : Bool) (n : ℕ) → b ≡ false → (1 ≤ n → IsTrue b) → n ≡ 0

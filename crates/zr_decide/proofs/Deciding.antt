@@ -22,12 +22,16 @@ use Rattle.zr_comp.specs.Cases.{AreFewSlots}
 use Rattle.zr_comp.specs.Causes.{SpendsCases}
 use Rattle.zr_comp.specs.OpenCases.{case_units}
 use Rattle.zr_comp.specs.declared.answer.Found.TheVariants.{Refuted}
+use Rattle.zr_draw.specs.Numbers.{numbers_of}
+use Rattle.zr_draw.proofs.Columns.{solves_complete}
+use Rattle.zr_refute.proofs.NoSolutions.{none_complete}
+use Rattle.zr_system.specs.System.{cell_count}
 use Rattle.zr_system.specs.Regions.{LeavesOf, named_at}
 use Rattle.zr_decide.specs.declared.covers.WholeRay.{WholeRay}
 use Rattle.zr_decide.specs.declared.stop.DecideStop.{DecideStop}
 use Rattle.zr_decide.specs.Causes.{IsOpenBySystem}
 use Rattle.zr_decide.specs.Coverings.{AreCoversTo, IsFirstOpen}
-use Rattle.zr_decide.specs.Decided.{AreDecidedCovers, decided_leaves, no_names}
+use Rattle.zr_decide.specs.Decided.{AreDecidedCovers, AreSmallCovers, decided_leaves, no_names}
 use Rattle.zr_best.specs.Works.{SpendsBestWork}
 use Rattle.zr_decide.specs.Equilibria.{AreSettledLeaves}
 use Rattle.zr_decide.specs.Later.{IsBoundsStop, IsLaterCause, IsSearchStop, IsSizeStop, SpendsLaterWork}
@@ -54,9 +58,16 @@ module _ (game : GameOf) (kind : Kind) (covers : List Tree) (ray : Option WholeR
 
   module _ (leaves : LeavesOf)
       (content : (trees : List TreeOf) → map preorder trees ≡ map nodes_of covers
-      → leaves ≡ decided_leaves game trees) where
+      → leaves ≡ decided_leaves game trees)
+      (within : cell_count game leaves ≤ 16777216) where
     same : leaves ≡ decided_leaves game c.trees
     same = content c.trees c.listed
+
+    small : AreSmallCovers game c.trees
+    small = record {
+      covers = decided;
+      within = subst (λ (l : LeavesOf). cell_count game l ≤ 16777216) same within;
+    }
 
     pub slots : IsGame game → AreFewSlots game leaves
     slots sound = have_few_slots game c.trees leaves same sound
@@ -67,7 +78,7 @@ module _ (game : GameOf) (kind : Kind) (covers : List Tree) (ray : Option WholeR
     pub settled_leaves : ray ≡ None → AreSettledLeaves game leaves
     settled_leaves e = record {
       trees = c.trees;
-      covers = decided;
+      covers = small;
       settled = subst (IsFirstOpen game c.trees) e c.open_is;
       same = same;
     }
@@ -78,21 +89,21 @@ module _ (game : GameOf) (kind : Kind) (covers : List Tree) (ray : Option WholeR
 
       pub bounds_stops : {A : Type 0} → (r : Result A DecideStop)
           → IfErr r (IsBoundsStop game kind mid new) → IfErr r (IsLaterCause game kind old new)
-      bounds_stops r b = bounds_causes game kind c.trees decided old mid new spent r b
+      bounds_stops r b = bounds_causes game kind c.trees small old mid new spent r b
 
       pub spends_bounds : SpendsBestWork game mid new → SpendsLaterWork game kind old new
-      spends_bounds b = with_bounds game kind c.trees decided old mid new spent b
+      spends_bounds b = with_bounds game kind c.trees small old mid new spent b
 
     module _ (old new : Purse) where
       pub search_stop : (stop : DecideStop) → IsSearchStop game leaves kind old new stop
           → IsLaterCause game kind old new stop
       search_stop stop h =
-          search_cause game kind c.trees decided old new stop
+          search_cause game kind c.trees small old new stop
           (subst (λ (l : LeavesOf). IsSearchStop game l kind old new stop) same h)
 
       pub spends_later : SpendsCases game leaves kind old new → SpendsLaterWork game kind old new
       spends_later h =
-          search_spends game kind c.trees decided old new
+          search_spends game kind c.trees small old new
           (subst (λ (l : LeavesOf). SpendsCases game l kind old new) same h)
 
       module _ (named : List (Vec Named)) (len : length named ≡ length game)
@@ -135,12 +146,19 @@ module _ (game : GameOf) (kind : Kind) (covers : List Tree) (ray : Option WholeR
             → IsOpenBySystem game kind r.player r.var r.dir.items (map named_list named)
         open_by x h r e =
             let o = subst (IsFirstOpen game c.trees) e c.open_is in
+            let solution = subst (λ (l : LeavesOf). IsSolution game l kind x) same h in
             record {
               trees = c.trees;
-              covers = decided;
+              covers = small;
               names = names;
               x = x;
-              solution = subst (λ (l : LeavesOf). IsSolution game l kind x) same h;
+              solution = solution;
+              not_refuted = λ t r. none_complete game (decided_leaves game c.trees) kind t r (
+                solution.0,
+                numbers_of game (decided_leaves game c.trees) x,
+                solves_complete game (decided_leaves game c.trees) x kind solution.0 solution.1
+                    solution.2,
+              );
               loose = o.0;
               player = o.1;
               is_player = o.2;

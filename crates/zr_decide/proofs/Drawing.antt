@@ -69,7 +69,7 @@ module _ (game : GameOf) (leaves : LeavesOf) (s : AreSettledLeaves game leaves) 
   pub leaves_cover : IsGame game → AreCovers game leaves
   leaves_cover sound =
       subst (AreCovers game) (sym s.same)
-      (are_covers game sound s.trees (no_names game) (right_covers game s.trees s.covers))
+      (are_covers game sound s.trees (no_names game) (right_covers game s.trees s.covers.covers))
 
   pub leaves_exact : AreExact game leaves
   leaves_exact =

@@ -107,7 +107,7 @@ decided_covers game covers ray c = record { len = c.len; each = c.each }
 covers_tree : (player : PlayerOf) (t : TreeOf) → IsDecidedCover player t
     → IsCoverTree player (root_leaf player) t
 covers_tree player t h =
-    ⊎_elim (λ s. s.cover)
+    ⊎_elim (λ s. s.0.cover)
     (λ s. subst (λ (u : TreeOf). IsCoverTree player (root_leaf player) u) (sym s.0) tt) h
 
 pub right_covers : (game : GameOf) (trees : List TreeOf) → AreDecidedCovers game trees

@@ -1,5 +1,5 @@
 -- Why there is no certificate.
-use Rattle.std.specs.Prelude.{◌≡◌, ℕ, ◌-◌, ◌^◌, ◌<◌, List, Some, map, min, slice_get, ◌⊎◌}
+use Rattle.std.specs.Prelude.{◌≡◌, ℕ, ◌-◌, ◌^◌, ◌<◌, List, Some, map, min, slice_get, ◌⊎◌, []}
 use Rattle.zr_base.specs.Points.{PointOf}
 use Rattle.zr_io.specs.declared.purse.Purse.{Purse}
 use Rattle.zr_io.specs.Purses.{counted}
@@ -11,20 +11,18 @@ use Rattle.zr_game.specs.declared.kind.Kind.{Kind}
 use Rattle.zr_tree.specs.Trees.{TreeOf, Loose}
 use Rattle.zr_asked.specs.declared.question.AskedLp.{AskedLp}
 use Rattle.zr_asked.specs.Stuck.{IsPlainAim, IsStuckAsked}
+use Rattle.zr_cases.specs.Trees.{CasesOf}
 use Rattle.zr_cert.specs.Certs.{named_list}
 use Rattle.zr_comp.specs.Answers.{IsSolution}
 use Rattle.zr_comp.specs.Causes.{IsStuckCase}
 use Rattle.zr_cover.specs.Covers.{HasNoLoose}
+use Rattle.zr_refute.specs.Refuting.{RefutesUnder}
 use Rattle.zr_system.specs.System.{cell_count}
 use Rattle.zr_decide.specs.declared.stop.DecideStop.{DecideStop}
 use Rattle.zr_decide.specs.declared.stop.DecideStop.TheVariants as AStop
-use Rattle.zr_decide.specs.Decided.{AreDecidedCovers, IsWholeRay, decided_leaves, no_names}
+use Rattle.zr_decide.specs.Decided.{AreSmallCovers, cell_limit, AreDecidedCovers, IsDrawnWholeRay, decided_leaves, no_names}
 use Rattle.zr_decide.specs.Equilibria.{IsOpenByClaim, IsStuckClaim, IsWideClaim}
 use Rattle.zr_decide.specs.Works.{HasMoreDecideWork}
-
--- the system of a game with more cells isn't built
-abbrev pub cell_limit : ℕ
-cell_limit = 16777216
 
 -- a question of some player's cover is stuck, whose aim is zero, or plus or minus one variable
 abbrev pub IsStuckCover : GameOf → AskedLp → Type 0
@@ -35,7 +33,7 @@ IsStuckCover game asked =
 -- a question of choices over the leaves of decided covers is stuck
 abbrev pub IsStuckChoice : GameOf → Kind → AskedLp → Type 0
 IsStuckChoice game kind asked =
-    (trees : List TreeOf) × AreDecidedCovers game trees
+    (trees : List TreeOf) × AreSmallCovers game trees
     × IsStuckCase game (decided_leaves game trees) kind asked.question asked.stuck
 
 -- the player is the first one whose cover is loose
@@ -43,19 +41,21 @@ pub record IsFirstLoose (trees : List TreeOf) (i : ℕ) : Type 0 where
   pub loose : slice_get trees i ≡ Some Loose
   pub first : (k : ℕ) (t : TreeOf) → k < i → slice_get trees k ≡ Some t → HasNoLoose t
 
--- the system over the leaves of decided covers has a solution under a complete list of choices; the
--- player is the first one whose cover is loose, and the ray is one of its relaxation
+-- the system over the leaves of decided covers has a solution under a complete list of choices, so
+-- that no refutation of it is right; the player is the first one whose cover is loose, and the ray
+-- is one of its relaxation
 pub record IsOpenBySystem (game : GameOf) (kind : Kind) (i var : ℕ) (dir : Direction)
     (named : List (List NamedOf)) : Type 0 where
   pub trees : List TreeOf
-  pub covers : AreDecidedCovers game trees
+  pub covers : AreSmallCovers game trees
   pub names : named ≡ no_names game
   pub x : PointOf
   pub solution : IsSolution game (decided_leaves game trees) kind x
+  pub not_refuted : (t : CasesOf) → RefutesUnder game (decided_leaves game trees) kind [] t → ⊥
   pub loose : IsFirstLoose trees i
   pub player : PlayerOf
   pub is_player : IsPlayer game i player
-  pub ray : IsWholeRay player var dir
+  pub ray : IsDrawnWholeRay player var dir
 
 -- so many cells has the system over the leaves of decided covers, up to the last number of 128
 -- bits, and that is above the limit

@@ -1,11 +1,12 @@
 -- The players' covers as they are made, one after another.
-use Rattle.std.specs.Prelude.{◌≡◌, ℕ, ◌+◌, ◌*◌, ◌≤◌, Option, Some, None, List, length, map, slice_get}
+use Rattle.std.specs.Prelude.{◌≡◌, ℕ, ◌+◌, ◌*◌, ◌≤◌, Option, Some, None, List, length, map, slice_get, ◌⊎◌}
 use Rattle.std.specs.List.{All}
 use Rattle.zr_base.specs.Points.{IsPoint}
 use Rattle.zr_io.specs.declared.purse.Purse.{Purse}
 use Rattle.zr_io.specs.Purses.{counted}
 use Rattle.zr_game.specs.Forms.{IsPlayer}
 use Rattle.zr_game.specs.Players.{GameOf, PlayerOf}
+use Rattle.zr_game.specs.Rays.{HasWholeRay}
 use Rattle.zr_tree.specs.declared.tree.Tree.{Tree}
 use Rattle.zr_tree.specs.Nodes.{NodeOf, SplitNode, ChooseNode, ProofNode, KnownNode, LooseNode}
 use Rattle.zr_tree.specs.Trees.{TreeOf, Loose, preorder}
@@ -21,7 +22,7 @@ use Rattle.zr_decide.specs.declared.covers.Covering.{Covering}
 use Rattle.zr_decide.specs.declared.covers.Covering.TheVariants as ACovering
 use Rattle.zr_decide.specs.declared.stop.DecideStop.{DecideStop}
 use Rattle.zr_decide.specs.declared.stop.DecideStop.TheVariants as AStop
-use Rattle.zr_decide.specs.Decided.{IsDecidedCover, IsWholeRay}
+use Rattle.zr_decide.specs.Decided.{IsDecidedCover, IsDrawnWholeRay, IsSettledCover}
 use Rattle.zr_decide.specs.Causes.{IsFirstLoose}
 
 -- a known point keeps the rules of points
@@ -36,14 +37,19 @@ HasPointForm LooseNode = Unit {0}
 abbrev pub IsOpenCover : PlayerOf → ℕ → TreeOf → Option WholeRay → Type 0
 IsOpenCover player i t None = HasNoLoose t
 IsOpenCover player i t (Some ray) =
-    (t ≡ Loose) × (ray.player ≡ i) × IsWholeRay player ray.var ray.dir.items
+    (t ≡ Loose) × (ray.player ≡ i) × IsDrawnWholeRay player ray.var ray.dir.items
 
--- the nodes are those of a decided cover of player i
+-- a cover as it is made: without a loose node; or one loose leaf, where a ray of the relaxation
+-- changes a whole variable
+abbrev pub IsMadeCover : PlayerOf → TreeOf → Type 0
+IsMadeCover player t = IsSettledCover player t ⊎ ((t ≡ Loose) × HasWholeRay player)
+
+-- the nodes are those of such a cover of player i
 pub record IsCoverOf (player : PlayerOf) (i : ℕ) (nodes : List NodeOf) (ray : Option WholeRay)
     : Type 0 where
   pub tree : TreeOf
   pub listed : preorder tree ≡ nodes
-  pub decided : IsDecidedCover player tree
+  pub made : IsMadeCover player tree
   pub form : IsTreeWith IsCoverNode nodes
   pub open_is : IsOpenCover player i tree ray
 
@@ -65,7 +71,7 @@ IsFirstOpen game trees None =
 IsFirstOpen game trees (Some ray) =
     IsFirstLoose trees ray.player
     × (player : PlayerOf) × IsPlayer game ray.player player
-    × IsWholeRay player ray.var ray.dir.items
+    × IsDrawnWholeRay player ray.var ray.dir.items
 
 -- the covers of the first n players
 pub record AreCoversTo (game : GameOf) (n : ℕ) (covers : List Tree) (ray : Option WholeRay)

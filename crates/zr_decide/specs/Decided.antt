@@ -1,19 +1,21 @@
 -- The covers over whose leaves the system is decided.
-use Rattle.std.specs.Prelude.{◌≡◌, ℕ, List, [], Some, length, map, slice_get, ◌⊎◌}
+use Rattle.std.specs.Prelude.{◌≡◌, ℕ, List, [], Some, length, map, slice_get, ◌⊎◌, ◌≤◌}
 use Rattle.zr_game.specs.Forms.{IsPlayer}
 use Rattle.zr_game.specs.Leaves.{root_leaf}
 use Rattle.zr_game.specs.Named.{NamedOf}
 use Rattle.zr_game.specs.Players.{GameOf, PlayerOf}
-use Rattle.zr_game.specs.Rays.{ChangesWhole, Direction}
+use Rattle.zr_game.specs.Rays.{ChangesWhole, Direction, HasWholeRay}
 use Rattle.zr_tree.specs.Covers.{IsCoverTree}
 use Rattle.zr_tree.specs.Right.{IsRightBy}
-use Rattle.zr_tree.specs.Trees.{TreeOf, Loose}
+use Rattle.zr_tree.specs.Trees.{TreeOf, Loose, preorder}
 use Rattle.zr_asked.specs.Drawn.{IsDrawnEnd, IsDrawnRay}
 use Rattle.zr_asked.specs.OpenTrees.{IsOpenTree}
 use Rattle.zr_asked.specs.Stuck.{IsPlainAim}
+use Rattle.zr_cert.specs.Forms.{leaf_count}
 use Rattle.zr_cover.specs.Covers.{HasNoLoose}
 use Rattle.zr_refute.specs.Covered.{covered}
 use Rattle.zr_system.specs.Regions.{LeavesOf}
+use Rattle.zr_system.specs.System.{cell_count}
 
 -- a cover without a loose node, open, whose ends are drawn from questions
 pub record IsSettledCover (player : PlayerOf) (t : TreeOf) : Type 0 where
@@ -23,15 +25,19 @@ pub record IsSettledCover (player : PlayerOf) (t : TreeOf) : Type 0 where
   pub drawn : IsRightBy (IsDrawnEnd player (IsPlainAim player)) player (root_leaf player) t
 
 -- a ray of the relaxation, drawn from a question, changes the whole variable
-abbrev pub IsWholeRay : PlayerOf → ℕ → Direction → Type 0
-IsWholeRay player var dir =
+abbrev pub IsDrawnWholeRay : PlayerOf → ℕ → Direction → Type 0
+IsDrawnWholeRay player var dir =
     ChangesWhole player dir var × IsDrawnRay player (IsPlainAim player) dir
 
--- such a cover; or the player's points as one loose leaf, where there is such a ray
+-- some node is known or loose
+abbrev pub HasLeaf : TreeOf → Type 0
+HasLeaf t = 1 ≤ leaf_count (preorder t)
+
+-- a cover without a loose node that has a leaf; or the player's points as one loose leaf, where a
+-- ray of the relaxation changes a whole variable
 abbrev pub IsDecidedCover : PlayerOf → TreeOf → Type 0
 IsDecidedCover player t =
-    IsSettledCover player t
-    ⊎ ((t ≡ Loose) × (var : ℕ) × (dir : Direction) × IsWholeRay player var dir)
+    (IsSettledCover player t × HasLeaf t) ⊎ ((t ≡ Loose) × HasWholeRay player)
 
 -- one for each player
 pub record AreDecidedCovers (game : GameOf) (trees : List TreeOf) : Type 0 where
@@ -46,3 +52,12 @@ no_names game = map (λ player. []) game
 -- the leaves of the covers
 abbrev pub decided_leaves : GameOf → List TreeOf → LeavesOf
 decided_leaves game trees = covered game trees (no_names game)
+
+-- the system of a game with more cells isn't built
+abbrev pub cell_limit : ℕ
+cell_limit = 16777216
+
+-- such covers over whose leaves the system has no more cells than that
+pub record AreSmallCovers (game : GameOf) (trees : List TreeOf) : Type 0 where
+  pub covers : AreDecidedCovers game trees
+  pub within : cell_count game (decided_leaves game trees) ≤ cell_limit

@@ -14,7 +14,7 @@ use Rattle.zr_costs.specs.Causes.{IsOpenOwn, IsStuckOwn, IsWideCostStep}
 use Rattle.zr_cover.specs.Covers.{HasNoLoose}
 use Rattle.zr_draw.specs.Drawn.{IsDrawnProfile}
 use Rattle.zr_system.specs.Regions.{LeavesOf}
-use Rattle.zr_decide.specs.Decided.{AreDecidedCovers, decided_leaves, no_names}
+use Rattle.zr_decide.specs.Decided.{AreSmallCovers, decided_leaves, no_names}
 
 -- no cover is loose
 abbrev pub AreSettled : List TreeOf → Type 0
@@ -23,7 +23,7 @@ AreSettled trees = (k : ℕ) (t : TreeOf) → slice_get trees k ≡ Some t → H
 -- the strategies are those that a solution over the leaves of such covers draws
 pub record IsDrawn (game : GameOf) (kind : Kind) (mixtures : List MixtureOf) : Type 0 where
   pub trees : List TreeOf
-  pub covers : AreDecidedCovers game trees
+  pub covers : AreSmallCovers game trees
   pub settled : AreSettled trees
   pub x : PointOf
   pub drawn : IsDrawnProfile game (decided_leaves game trees) kind x mixtures
@@ -56,6 +56,6 @@ pub record IsOpenByClaim (game : GameOf) (kind : Kind) (i var : ℕ) (dir : Dire
 -- the leaves are those of decided covers, none of which is loose
 pub record AreSettledLeaves (game : GameOf) (leaves : LeavesOf) : Type 0 where
   pub trees : List TreeOf
-  pub covers : AreDecidedCovers game trees
+  pub covers : AreSmallCovers game trees
   pub settled : AreSettled trees
   pub same : leaves ≡ decided_leaves game trees

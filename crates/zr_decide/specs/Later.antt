@@ -12,8 +12,8 @@ use Rattle.zr_system.specs.Regions.{LeavesOf}
 use Rattle.zr_system.specs.System.{cell_count}
 use Rattle.zr_decide.specs.declared.stop.DecideStop.{DecideStop}
 use Rattle.zr_decide.specs.declared.stop.DecideStop.TheVariants as AStop
-use Rattle.zr_decide.specs.Causes.{IsOpenBySystem, IsStuckChoice, IsStuckCover, IsTooLarge, cell_limit}
-use Rattle.zr_decide.specs.Decided.{decided_leaves}
+use Rattle.zr_decide.specs.Causes.{IsOpenBySystem, IsStuckChoice, IsStuckCover, IsTooLarge}
+use Rattle.zr_decide.specs.Decided.{cell_limit, decided_leaves}
 use Rattle.zr_decide.specs.Works.{AreCaseUnits}
 use Rattle.std.specs.Global.{Vec}
 use Rattle.zr_game.specs.declared.named.Named.{Named}

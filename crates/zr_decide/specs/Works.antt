@@ -7,13 +7,13 @@ use Rattle.zr_game.specs.declared.kind.Kind.{Kind}
 use Rattle.zr_tree.specs.Trees.{TreeOf}
 use Rattle.zr_best.specs.Works.{AreOpenTrees, all_units}
 use Rattle.zr_comp.specs.OpenCases.{CaseWork, case_units}
-use Rattle.zr_decide.specs.Decided.{AreDecidedCovers, decided_leaves}
+use Rattle.zr_decide.specs.Decided.{AreSmallCovers, decided_leaves}
 
 -- the units of an open tree of cases over the leaves of decided covers; or none
 abbrev pub AreCaseUnits : GameOf → Kind → ℕ → Type 0
 AreCaseUnits game kind n =
     (n ≡ 0)
-    ⊎ ((trees : List TreeOf) × AreDecidedCovers game trees
+    ⊎ ((trees : List TreeOf) × AreSmallCovers game trees
     × (work : CaseWork game (decided_leaves game trees) kind)
     × (n ≡ case_units (decided_leaves game trees) work.tree))
 

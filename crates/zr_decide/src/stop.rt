@@ -11,15 +11,18 @@ pub enum DecideStop {
     Wide(AskedLp),
     /// A step of arithmetic is too wide.
     Step(Wide),
-    /// The direction, a ray of the player's relaxation, changes the whole variable `var`, and by
-    /// what was tried there may be an equilibrium or none. `named` has a list for each player.
+    /// The direction, a ray of the player's relaxation, changes the whole variable `var`. The system
+    /// over the leaves of the covers has a solution, so no refutation of it is right; or it is open
+    /// what the player pays at least against an equilibrium that was drawn. `named` has a list for
+    /// each player.
     Endless {
         player: u32,
         var: u32,
         dir: Vec<i128>,
         named: Vec<Vec<Named>>,
     },
-    /// The system of the game has so many cells, which are too many.
+    /// The system of the game has so many cells, up to the last number of 128 bits, which are too
+    /// many.
     TooLarge {
         cells: u128,
     },

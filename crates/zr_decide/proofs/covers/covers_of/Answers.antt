@@ -1,4 +1,4 @@
-use Rattle.std.proofs.Common.{arith, ◌≡◌, ◌+◌, sym, ap, subst, ◌∙◌, List, length, map}
+use Rattle.std.proofs.Common.{arith, ◌≡◌, ◌+◌, ◌≤◌, sym, ap, subst, ◌∙◌, List, length, map}
 use Rattle.std.proofs.lemmas.List.{length-map}
 use Rattle.zr_game.specs.Games.{game_of}
 use Rattle.zr_game.specs.Forms.{IsPlayer}
@@ -77,11 +77,13 @@ loop-i-preserved c =
     let here = who (goal.at.loop-i-preserved c).In-loop-i in
     let m = length-map c.args.game.now.players.items player_of in
     let s = c.loop-i.invariant.so_far in
+    let leaf = subst (λ (xs : List Node). 1 ≤ leaf_count (map node_of xs)) c.deref.ensures.value
+    (c.has_leaf.ensures.0 c.if-not-has_leaf.false) in
     record {
       so_far = rw c.in-Ok-push.ensures.items
           (cover_more (game_of c.args.game.now) c.loop-i.i here.0 here.1 c.loop-i.trees.items
           c.loop-i.ray s.covers_are c.in-Ok.cover.0 c.in-Ok.cover.1
-          (c.in-Ok.ensures.cover here.0 here.1) c.args.purse.now c.loop-i.purse
+          (c.in-Ok.ensures.cover here.0 here.1) leaf c.args.purse.now c.loop-i.purse
           c.cover_of.new.purse s.few s.work (c.in-Ok.ensures.spends here.0 here.1)
           c.in-Ok.ensures.few c.first_of-ray.result c.first_of-ray.ensures.some
           c.first_of-ray.ensures.none);

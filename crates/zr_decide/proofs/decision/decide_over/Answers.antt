@@ -49,7 +49,8 @@ solve-requires-clause-slots c =
     slots (game_of c.args.game.now) c.args.kind c.args.covers.trees.items c.args.covers.ray
     c.requires.covers (leaves_of c.in-Ok-leaves_of.leaves)
     (λ trees e. c.in-Ok-leaves_of.ensures.content trees
-    (e ∙ ap (λ (xs : List Tree). map nodes_of xs) (sym c.deref.ensures.value))) c.args.game.now.sound
+    (e ∙ ap (λ (xs : List Tree). map nodes_of xs) (sym c.deref.ensures.value)))
+    c.in-Ok-leaves_of.ensures.cells c.args.game.now.sound
 
 pub solve-requires-clause-named : goal.solve-requires-clause-named
 solve-requires-clause-named c =
@@ -57,6 +58,7 @@ solve-requires-clause-named c =
     c.requires.covers (leaves_of c.in-Ok-leaves_of.leaves)
     (λ trees e. c.in-Ok-leaves_of.ensures.content trees
     (e ∙ ap (λ (xs : List Tree). map nodes_of xs) (sym c.deref.ensures.value)))
+    c.in-Ok-leaves_of.ensures.cells
 
 pub returns-in-Err-solve-clause-cause : goal.returns-in-Err-solve-clause-cause
 returns-in-Err-solve-clause-cause c =
@@ -64,6 +66,7 @@ returns-in-Err-solve-clause-cause c =
     c.requires.covers (leaves_of c.in-Ok-leaves_of.leaves)
     (λ trees e. c.in-Ok-leaves_of.ensures.content trees
     (e ∙ ap (λ (xs : List Tree). map nodes_of xs) (sym c.deref.ensures.value)))
+    c.in-Ok-leaves_of.ensures.cells
     c.args.purse.now c.solve.new.purse c.in-Err-solve.stop c.in-Err-solve.ensures.cause
 
 pub returns-in-Err-solve-clause-spends : goal.returns-in-Err-solve-clause-spends
@@ -72,6 +75,7 @@ returns-in-Err-solve-clause-spends c =
     c.requires.covers (leaves_of c.in-Ok-leaves_of.leaves)
     (λ trees e. c.in-Ok-leaves_of.ensures.content trees
     (e ∙ ap (λ (xs : List Tree). map nodes_of xs) (sym c.deref.ensures.value)))
+    c.in-Ok-leaves_of.ensures.cells
     c.args.purse.now c.solve.new.purse c.in-Err-solve.ensures.spends
 
 pub certificate-requires-clause-form : goal.certificate-requires-clause-form
@@ -81,6 +85,7 @@ certificate-requires-clause-form c =
     c.requires.covers (leaves_of c.in-Ok-leaves_of.leaves)
     (λ trees e. c.in-Ok-leaves_of.ensures.content trees
     (e ∙ ap (λ (xs : List Tree). map nodes_of xs) (sym c.deref.ensures.value)))
+    c.in-Ok-leaves_of.ensures.cells
     c.args.purse.now c.solve.new.purse c.in-Ok.named.items
     (omega (arith, c.in-Ok.ensures.len, c.len.ensures, c.args.game.now.players.ok.0, m))
     c.in-Ok.ensures.empty c.in-Ok-Refuted.proof
@@ -97,6 +102,7 @@ certificate-requires-clause-few c =
     c.requires.covers (leaves_of c.in-Ok-leaves_of.leaves)
     (λ trees e. c.in-Ok-leaves_of.ensures.content trees
     (e ∙ ap (λ (xs : List Tree). map nodes_of xs) (sym c.deref.ensures.value)))
+    c.in-Ok-leaves_of.ensures.cells
     c.args.purse.now c.solve.new.purse c.in-Ok.named.items
     (omega (arith, c.in-Ok.ensures.len, c.len.ensures, c.args.game.now.players.ok.0, m))
     c.in-Ok.ensures.empty c.in-Ok-Refuted.proof
@@ -114,6 +120,7 @@ returns-in-Ok-Refuted-clause-right c =
     c.requires.covers (leaves_of c.in-Ok-leaves_of.leaves)
     (λ trees e. c.in-Ok-leaves_of.ensures.content trees
     (e ∙ ap (λ (xs : List Tree). map nodes_of xs) (sym c.deref.ensures.value)))
+    c.in-Ok-leaves_of.ensures.cells
     c.args.purse.now c.solve.new.purse c.in-Ok.named.items
     (omega (arith, c.in-Ok.ensures.len, c.len.ensures, c.args.game.now.players.ok.0, m))
     c.in-Ok.ensures.empty c.in-Ok-Refuted.proof
@@ -126,6 +133,7 @@ returns-in-Ok-Refuted-clause-spends c =
     c.requires.covers (leaves_of c.in-Ok-leaves_of.leaves)
     (λ trees e. c.in-Ok-leaves_of.ensures.content trees
     (e ∙ ap (λ (xs : List Tree). map nodes_of xs) (sym c.deref.ensures.value)))
+    c.in-Ok-leaves_of.ensures.cells
     c.args.purse.now c.solve.new.purse c.in-Ok-Refuted.ensures.spends
 
 pub returns-in-Some-clause-cause : goal.returns-in-Some-clause-cause
@@ -135,6 +143,7 @@ returns-in-Some-clause-cause c =
     c.requires.covers (leaves_of c.in-Ok-leaves_of.leaves)
     (λ trees e. c.in-Ok-leaves_of.ensures.content trees
     (e ∙ ap (λ (xs : List Tree). map nodes_of xs) (sym c.deref.ensures.value)))
+    c.in-Ok-leaves_of.ensures.cells
     c.args.purse.now c.solve.new.purse c.in-Ok.named.items
     (omega (arith, c.in-Ok.ensures.len, c.len.ensures, c.args.game.now.players.ok.0, m))
     c.in-Ok.ensures.empty c.in-Ok-Solved.x
@@ -148,6 +157,7 @@ returns-in-Some-clause-spends c =
     c.requires.covers (leaves_of c.in-Ok-leaves_of.leaves)
     (λ trees e. c.in-Ok-leaves_of.ensures.content trees
     (e ∙ ap (λ (xs : List Tree). map nodes_of xs) (sym c.deref.ensures.value)))
+    c.in-Ok-leaves_of.ensures.cells
     c.args.purse.now c.solve.new.purse c.in-Ok-Solved.ensures.spends
 
 pub equilibrium-requires-clause-covers : goal.equilibrium-requires-clause-covers
@@ -156,6 +166,7 @@ equilibrium-requires-clause-covers c =
     c.requires.covers (leaves_of c.in-Ok-leaves_of.leaves)
     (λ trees e. c.in-Ok-leaves_of.ensures.content trees
     (e ∙ ap (λ (xs : List Tree). map nodes_of xs) (sym c.deref.ensures.value)))
+    c.in-Ok-leaves_of.ensures.cells
     c.in-None.is
 
 pub equilibrium-requires-clause-solution : goal.equilibrium-requires-clause-solution
@@ -182,6 +193,7 @@ returns-clause-cause c =
     c.requires.covers (leaves_of c.in-Ok-leaves_of.leaves)
     (λ trees e. c.in-Ok-leaves_of.ensures.content trees
     (e ∙ ap (λ (xs : List Tree). map nodes_of xs) (sym c.deref.ensures.value)))
+    c.in-Ok-leaves_of.ensures.cells
     c.args.purse.now c.solve.new.purse c.equilibrium.new.purse c.in-Ok-Solved.ensures.spends
     c.equilibrium.result c.equilibrium.ensures.cause
 
@@ -191,5 +203,6 @@ returns-clause-spends c =
     c.requires.covers (leaves_of c.in-Ok-leaves_of.leaves)
     (λ trees e. c.in-Ok-leaves_of.ensures.content trees
     (e ∙ ap (λ (xs : List Tree). map nodes_of xs) (sym c.deref.ensures.value)))
+    c.in-Ok-leaves_of.ensures.cells
     c.args.purse.now c.solve.new.purse c.equilibrium.new.purse c.in-Ok-Solved.ensures.spends
     c.equilibrium.ensures.spends
