@@ -3,12 +3,16 @@ use Rattle.std.proofs.Common.{ℕ, sym, subst, inl, inr, Result, Ok, Err, IfErr,
 use Rattle.zr_io.specs.Contents.{Bytes, Contents}
 use Rattle.zr_words.specs.Words.{Words}
 use Rattle.zr_source.specs.Sources.{SourceOf}
+use Rattle.zr_game.specs.declared.kind.Kind.{Kind}
+use Rattle.zr_report.specs.declared.end.End.{End}
+use Rattle.zero.specs.declared.text.Text.{Text}
+use Rattle.zero.specs.declared.text.Text.TheVariants.{Game, Cert}
 use Rattle.zr_follow.specs.Expansion.{expansion}
 use Rattle.zero.specs.declared.refusal.Refusal.{Refusal}
-use Rattle.zero.specs.Answers.{IsAnswer, IsAskedCert}
+use Rattle.zero.specs.Answers.{IsAnswer, IsAskedCert, IsAskedSolve, IsEnded}
 use Rattle.zero.specs.Commands.{Purpose, for_best}
 use Rattle.zero.specs.Reads.{IsDueCert}
-use Rattle.zero.specs.Refusals.{IsCause, IsStopped, NamesGame}
+use Rattle.zero.specs.Refusals.{ComesOfWork, IsCause, IsStopped, NamesGame}
 
 -- words that name a certificate name its game
 pub names_of_due : {words : Words} {contents : Contents} {purpose : Purpose} {source : SourceOf} {name : Bytes}
@@ -19,7 +23,8 @@ names_of_due {purpose = purpose} {name = name} due =
 -- words that have an answer name a game
 pub names_of_answer : (words : Words) (contents : Contents) (text : Bytes)
     → IsAnswer words contents text → NamesGame words
-names_of_answer words contents text (inl solved) = (solved.name, inl solved.solve)
+names_of_answer words contents text (inl solved) =
+    (solved.asked.name, inl (solved.kind, solved.budget, solved.asked.solve))
 names_of_answer words contents text (inr (inl checked)) = names_of_due checked.asked.due
 names_of_answer words contents text (inr (inr (inl best))) = names_of_due best.asked.due
 names_of_answer words contents text (inr (inr (inr migrated))) =
@@ -56,3 +61,19 @@ stopped_cause words contents budget source bytes refusal asked (mixtures, profil
       profile = profile;
       cause = cause;
     })
+
+-- words whose work comes to an end name a game
+pub names_of_end : {words : Words} {contents : Contents} (last : Text) (end : End)
+    → IsEnded words contents last end → NamesGame words
+names_of_end Game end h = (h.asked.name, inl (h.kind, h.budget, h.asked.solve))
+names_of_end Cert end h = names_of_due h.asked.due
+
+-- the end of the work on an equilibrium, of which the words ask
+pub worked_cause : (words : Words) (contents : Contents) (kind : Kind) (budget : ℕ) (source : SourceOf)
+    (refusal : Refusal) → IsAskedSolve words contents kind budget source
+    → ComesOfWork (expansion source) kind budget refusal → IsCause words contents refusal
+worked_cause words contents kind budget source refusal asked (inl none) =
+    subst (IsCause words contents) (sym none) tt
+worked_cause words contents kind budget source refusal asked (inr (end, is, cause)) =
+    subst (IsCause words contents) (sym is)
+    (record { kind = kind; budget = budget; source = source; asked = asked; cause = cause })

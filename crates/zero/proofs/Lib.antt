@@ -1,5 +1,4 @@
 pub mod CommandLemmas
-pub mod TextLemmas
 pub mod WritingLemmas
 pub mod LineLemmas
 mod BestLemmas

@@ -8,13 +8,12 @@ use Rattle.zr_report.specs.Spelling.{report_text}
 use Rattle.zr_value.specs.declared.fault.GameFault.{GameFault}
 use Rattle.zero.specs.declared.refusal.CertFlaw.{CertFlaw}
 use Rattle.zero.specs.declared.refusal.Refusal.{Refusal}
-use Rattle.zero.specs.declared.refusal.Refusal.TheVariants.{Usage, CannotRead, TooLong, Faulty, Flawed, Ended, NoMemory, WriteFault, Unbuilt, UnbuiltGame}
+use Rattle.zero.specs.declared.refusal.Refusal.TheVariants.{Usage, CannotRead, TooLong, Faulty, Flawed, Ended, NoMemory, WriteFault}
 use Rattle.zero.specs.declared.text.Text.{Text}
 use Rattle.zero.specs.declared.text.Text.TheVariants.{Game, Cert}
 use Rattle.zr_words.specs.Words.{Words}
-use Rattle.zero.specs.Commands.{IsUnbuiltCommand}
 use Rattle.zero.specs.Reads.{IsDue, IsLastTake, IsLong}
-use Rattle.zero.specs.Answers.{IsEnded, IsFaultyGame, IsRefusedCert, IsUnbuiltGame}
+use Rattle.zero.specs.Answers.{IsEnded, IsFaultyGame, IsRefusedCert}
 use Rattle.zero.specs.Refusals.{HasReported, HasTaken, IsCause, IsEndStatus, end_status, status_of}
 
 -- an end has one of its statuses
@@ -36,11 +35,9 @@ module _ (words : Words) (contents : Contents) (before after : ℕ) where
   unread_of (TooLong text name) h t e = absurd (omega (arith, e))
   unread_of (Faulty fault path) h t e = absurd (omega (arith, e))
   unread_of (Flawed number flaw) h t e = absurd (omega (arith, e))
-  unread_of (Ended end) h t e = let range = end_range end in absurd (omega (arith, e, range.0, range.1))
+  unread_of (Ended last end) h t e = let range = end_range end in absurd (omega (arith, e, range.0, range.1))
   unread_of NoMemory h t e = absurd (omega (arith, e))
   unread_of WriteFault h t e = absurd (omega (arith, e))
-  unread_of Unbuilt h t e = absurd (omega (arith, e))
-  unread_of UnbuiltGame h t e = absurd (omega (arith, e))
 
   -- so is one that is too long
   pub long_of : (refusal : Refusal) → IsCause words contents refusal → HasTaken before after refusal → status_of refusal ≡ 4
@@ -50,11 +47,9 @@ module _ (words : Words) (contents : Contents) (before after : ℕ) where
   long_of (TooLong text name) h t e = (text, name.now, h, t)
   long_of (Faulty fault path) h t e = absurd (omega (arith, e))
   long_of (Flawed number flaw) h t e = absurd (omega (arith, e))
-  long_of (Ended end) h t e = let range = end_range end in absurd (omega (arith, e, range.0, range.1))
+  long_of (Ended last end) h t e = let range = end_range end in absurd (omega (arith, e, range.0, range.1))
   long_of NoMemory h t e = absurd (omega (arith, e))
   long_of WriteFault h t e = absurd (omega (arith, e))
-  long_of Unbuilt h t e = absurd (omega (arith, e))
-  long_of UnbuiltGame h t e = absurd (omega (arith, e))
 
   -- a fault is that of the game
   pub fault_of : (refusal : Refusal) → IsCause words contents refusal → HasTaken before after refusal → status_of refusal ≡ 5
@@ -64,11 +59,9 @@ module _ (words : Words) (contents : Contents) (before after : ℕ) where
   fault_of (TooLong text name) h t e = absurd (omega (arith, e))
   fault_of (Faulty fault path) h t e = (fault, string_bytes path, h, t)
   fault_of (Flawed number flaw) h t e = absurd (omega (arith, e))
-  fault_of (Ended end) h t e = let range = end_range end in absurd (omega (arith, e, range.0, range.1))
+  fault_of (Ended last end) h t e = let range = end_range end in absurd (omega (arith, e, range.0, range.1))
   fault_of NoMemory h t e = absurd (omega (arith, e))
   fault_of WriteFault h t e = absurd (omega (arith, e))
-  fault_of Unbuilt h t e = absurd (omega (arith, e))
-  fault_of UnbuiltGame h t e = absurd (omega (arith, e))
 
   -- a refused line is one of the certificate
   pub flaw_of : (refusal : Refusal) → IsCause words contents refusal → HasTaken before after refusal → status_of refusal ≡ 6
@@ -78,38 +71,20 @@ module _ (words : Words) (contents : Contents) (before after : ℕ) where
   flaw_of (TooLong text name) h t e = absurd (omega (arith, e))
   flaw_of (Faulty fault path) h t e = absurd (omega (arith, e))
   flaw_of (Flawed number flaw) h t e = (number, flaw, h, t)
-  flaw_of (Ended end) h t e = let range = end_range end in absurd (omega (arith, e, range.0, range.1))
+  flaw_of (Ended last end) h t e = let range = end_range end in absurd (omega (arith, e, range.0, range.1))
   flaw_of NoMemory h t e = absurd (omega (arith, e))
   flaw_of WriteFault h t e = absurd (omega (arith, e))
-  flaw_of Unbuilt h t e = absurd (omega (arith, e))
-  flaw_of UnbuiltGame h t e = absurd (omega (arith, e))
 
-  -- what isn't built is asked for by the words, or in the game
-  pub unbuilt_of : (refusal : Refusal) → IsCause words contents refusal → HasTaken before after refusal → status_of refusal ≡ 16
-      → IsUnbuiltCommand words ⊎ (IsUnbuiltGame words contents × IsLastTake Game before after)
-  unbuilt_of (Usage help) h t e = absurd (omega (arith, e))
-  unbuilt_of (CannotRead text name) h t e = absurd (omega (arith, e))
-  unbuilt_of (TooLong text name) h t e = absurd (omega (arith, e))
-  unbuilt_of (Faulty fault path) h t e = absurd (omega (arith, e))
-  unbuilt_of (Flawed number flaw) h t e = absurd (omega (arith, e))
-  unbuilt_of (Ended end) h t e = let range = end_range end in absurd (omega (arith, e, range.0, range.1))
-  unbuilt_of NoMemory h t e = absurd (omega (arith, e))
-  unbuilt_of WriteFault h t e = absurd (omega (arith, e))
-  unbuilt_of Unbuilt h t e = inl h
-  unbuilt_of UnbuiltGame h t e = inr (h, t)
-
-  -- an end without an answer is one of the search for best answers, with its report
+  -- an end without an answer is one of the work that is asked for, with its report
   pub ended_of : (old new : Option Bytes) (refusal : Refusal) → IsCause words contents refusal
       → HasTaken before after refusal → HasReported old new refusal → IsEndStatus (status_of refusal)
-      → (end : End) × (status_of refusal ≡ end_status end) × IsEnded words contents end
-      × IsLastTake Cert before after × Appends old (report_text end) new
+      → (last : Text) × (end : End) × (status_of refusal ≡ end_status end)
+      × IsEnded words contents last end × IsLastTake last before after × Appends old (report_text end) new
   ended_of old new (Usage help) h t w e = absurd (omega (arith, e.0))
   ended_of old new (CannotRead text name) h t w e = absurd (omega (arith, e.0))
   ended_of old new (TooLong text name) h t w e = absurd (omega (arith, e.0))
   ended_of old new (Faulty fault path) h t w e = absurd (omega (arith, e.0))
   ended_of old new (Flawed number flaw) h t w e = absurd (omega (arith, e.0))
-  ended_of old new (Ended end) h t w e = (end, refl, h, t, w)
+  ended_of old new (Ended last end) h t w e = (last, end, refl, h, t, w)
   ended_of old new NoMemory h t w e = absurd (omega (arith, e.1))
   ended_of old new WriteFault h t w e = absurd (omega (arith, e.1))
-  ended_of old new Unbuilt h t w e = absurd (omega (arith, e.1))
-  ended_of old new UnbuiltGame h t w e = absurd (omega (arith, e.1))

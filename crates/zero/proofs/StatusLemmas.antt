@@ -1,20 +1,19 @@
--- The status of words that ask for nothing, or for what isn't built.
+-- The status of words that ask for nothing.
 use Rattle.std.proofs.Common.{◌≡◌, refl, inl, inr, arith, String, Option, Some, None}
 use Rattle.std.specs.declared.alloc.Global.{Global}
 use Rattle.zr_io.specs.Contents.{Bytes, Contents}
 use Rattle.zr_words.specs.Words.{Words}
 use Rattle.zr_words.specs.Commands.{IsFaulty}
 use Rattle.zero.specs.declared.refusal.Refusal.{Refusal}
-use Rattle.zero.specs.declared.refusal.Refusal.TheVariants.{Usage, CannotRead, TooLong, Faulty, Flawed, Ended, NoMemory, WriteFault, Unbuilt, UnbuiltGame}
+use Rattle.zero.specs.declared.refusal.Refusal.TheVariants.{Usage, CannotRead, TooLong, Faulty, Flawed, Ended, NoMemory, WriteFault}
 use Rattle.zero.specs.declared.text.Text.{Text}
 use Rattle.zero.specs.declared.text.Text.TheVariants.{Game, Cert}
-use Rattle.zero.specs.Commands.{IsUnbuiltCommand}
 use Rattle.zero.specs.Reads.{IsDue}
 use Rattle.zero.specs.Refusals.{IsCause, IsHelp, NamesGame, status_of}
 use Rattle.zero.specs.Told.{IsStatus}
-use Rattle.zero.proofs.CauseLemmas.{names_of_due}
+use Rattle.zero.proofs.CauseLemmas.{names_of_due, names_of_end}
 use Rattle.zero.proofs.LineLemmas.{end_range}
-use Rattle.zero.proofs.CommandLemmas.{named_or_faulty, named_or_unbuilt}
+use Rattle.zero.proofs.CommandLemmas.{named_or_faulty}
 
 module _ (words : Words) (contents : Contents) where
   -- words that have no form, or are of no action, ask for nothing
@@ -38,30 +37,10 @@ module _ (words : Words) (contents : Contents) where
   faulty_status (Faulty fault path) h faulty = absurd (named_or_faulty words h.name h.named faulty)
   faulty_status (Flawed number flaw) h faulty =
       let names = names_of_due h.asked.due in absurd (named_or_faulty words names.0 names.1 faulty)
-  faulty_status (Ended end) h faulty =
-      let names = names_of_due h.asked.due in absurd (named_or_faulty words names.0 names.1 faulty)
+  faulty_status (Ended last end) h faulty =
+      let names = names_of_end last end h in absurd (named_or_faulty words names.0 names.1 faulty)
   faulty_status NoMemory h faulty = inr refl
   faulty_status WriteFault h faulty = absurd (named_or_faulty words h.0 h.1 faulty)
-  faulty_status Unbuilt h faulty = absurd (faulty h.1.0 h.1.1)
-  faulty_status UnbuiltGame h faulty = absurd (named_or_faulty words h.name (inl h.solve) faulty)
-
-  -- those that ask for what isn't built have the status 16
-  pub unbuilt_status : (refusal : Refusal) → IsCause words contents refusal → IsUnbuiltCommand words
-      → IsStatus 16 (status_of refusal)
-  unbuilt_status (Usage help) h unbuilt = absurd (faulty_of_help help h unbuilt.1.0 unbuilt.1.1)
-  unbuilt_status (CannotRead text name) h unbuilt =
-      let due = due_name text name.now h in absurd (named_or_unbuilt words due.0 due.1 unbuilt)
-  unbuilt_status (TooLong text name) h unbuilt =
-      let due = due_name text name.now h.due in absurd (named_or_unbuilt words due.0 due.1 unbuilt)
-  unbuilt_status (Faulty fault path) h unbuilt = absurd (named_or_unbuilt words h.name h.named unbuilt)
-  unbuilt_status (Flawed number flaw) h unbuilt =
-      let names = names_of_due h.asked.due in absurd (named_or_unbuilt words names.0 names.1 unbuilt)
-  unbuilt_status (Ended end) h unbuilt =
-      let names = names_of_due h.asked.due in absurd (named_or_unbuilt words names.0 names.1 unbuilt)
-  unbuilt_status NoMemory h unbuilt = inr refl
-  unbuilt_status WriteFault h unbuilt = absurd (named_or_unbuilt words h.0 h.1 unbuilt)
-  unbuilt_status Unbuilt h unbuilt = inl refl
-  unbuilt_status UnbuiltGame h unbuilt = absurd (named_or_unbuilt words h.name (inl h.solve) unbuilt)
 
   -- the status 2 comes of words that ask for nothing
   pub usage_of : (refusal : Refusal) → IsCause words contents refusal → status_of refusal ≡ 2 → IsFaulty words
@@ -70,8 +49,6 @@ module _ (words : Words) (contents : Contents) where
   usage_of (TooLong text name) h e = absurd (omega (arith, e))
   usage_of (Faulty fault path) h e = absurd (omega (arith, e))
   usage_of (Flawed number flaw) h e = absurd (omega (arith, e))
-  usage_of (Ended end) h e = let range = end_range end in absurd (omega (arith, e, range.0))
+  usage_of (Ended last end) h e = let range = end_range end in absurd (omega (arith, e, range.0))
   usage_of NoMemory h e = absurd (omega (arith, e))
   usage_of WriteFault h e = absurd (omega (arith, e))
-  usage_of Unbuilt h e = absurd (omega (arith, e))
-  usage_of UnbuiltGame h e = absurd (omega (arith, e))

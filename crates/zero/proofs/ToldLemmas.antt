@@ -2,14 +2,13 @@
 use Rattle.std.proofs.Common.{◌≡◌, ℕ, ◌≤◌, true, List, length, Some, refl, sym, ap, subst, ◌∙◌, inl, inr, arith, string_bytes}
 use Rattle.zr_game.specs.Players.{GameOf}
 use Rattle.zr_game.specs.Forms.{IsGame}
-use Rattle.zr_game.specs.declared.kind.Kind.TheVariants.{Pure}
+use Rattle.zr_game.specs.declared.kind.Kind.{Kind}
 use Rattle.zr_io.specs.Contents.{Bytes, Contents}
 use Rattle.zr_form.specs.Lines.{lines_of}
 use Rattle.zr_form.proofs.Composing.{lines_fit}
 use Rattle.zr_source.specs.Sources.{SourceOf}
 use Rattle.zr_follow.specs.Expansion.{expansion}
 use Rattle.zr_value.specs.declared.fault.GameFault.{GameFault}
-use Rattle.zr_trial.specs.Reach.{IsWithinReach}
 use Rattle.zr_cert.specs.Certs.{CertOf, MixtureOf, VerdictOf}
 use Rattle.zr_cert.specs.Forms.{IsCert}
 use Rattle.zr_cert.specs.Lines.{line_count}
@@ -32,15 +31,16 @@ use Rattle.zero.specs.BestTexts.{IsBestEnd, IsProfileText}
 use Rattle.zero.specs.Commands.{IsGameName, IsMigrate, IsPurpose, IsSolve, Purpose, for_best, for_check}
 use Rattle.zero.specs.Games.{HasGameFault, IsGameText}
 use Rattle.zero.specs.Reads.{IsContent, IsDueCert, IsMore, IsTold, cert_limit, game_limit}
-use Rattle.zero.specs.Answers.{IsAnswer, IsAskedCert, IsFlawed, IsRefusedFor, IsRightText}
+use Rattle.zero.specs.Answers.{IsAnswer, IsAskedCert, IsAskedSolve, IsFlawed, IsRefusedFor, IsRightText}
 use Rattle.zero.specs.Refusals.{IsCause, end_status, status_of}
-use Rattle.zero.specs.Told.{IsCertStatus, IsDone, IsGameStatus, IsRightFor, IsStatus, IsToldCert, IsToldGame}
+use Rattle.zero.specs.Told.{IsCertStatus, IsDone, IsGameStatus, IsRightFor, IsSolveStatus, IsStatus, IsToldCert, IsToldGame}
 use Rattle.zero.specs.declared.refusal.CertFlaw.{CertFlaw}
 use Rattle.zero.specs.declared.refusal.CertFlaw.TheVariants.{Form, Number, Wrong, Wide}
 use Rattle.zero.specs.declared.refusal.Refusal.{Refusal}
-use Rattle.zero.specs.declared.refusal.Refusal.TheVariants.{Usage, CannotRead, TooLong, Faulty, Flawed, Ended, NoMemory, WriteFault, Unbuilt, UnbuiltGame}
+use Rattle.zero.specs.declared.refusal.Refusal.TheVariants.{Usage, CannotRead, TooLong, Faulty, Flawed, Ended, NoMemory, WriteFault}
 use Rattle.zero.specs.declared.text.Text.TheVariants.{Game, Cert}
-use Rattle.zero.proofs.CommandLemmas.{named_or_faulty, named_or_unbuilt, no_migrate, no_solve, not_both, one_name, one_purpose}
+use Rattle.zero.proofs.CommandLemmas.{named_or_faulty, no_migrate, no_solve, not_both, one_name, one_purpose}
+use Rattle.zero.proofs.LineLemmas.{end_range}
 use Rattle.zero.proofs.StatusLemmas.{faulty_of_help}
 use Rattle.zero.proofs.GameLemmas.{game_of_text, game_or_fault, one_game}
 
@@ -82,16 +82,12 @@ module _ (words : Words) (contents : Contents) (bytes : Bytes)
 
   -- a text that stands for a game has no other status than these
   standing : (source : SourceOf) → IsGameText bytes source → (status : ℕ)
-      → ((name : Bytes) → IsSolve words Pure name → (IsWithinReach (expansion source) → ⊥) → IsStatus 16 status)
-      → ((name : Bytes) → IsSolve words Pure name → IsWithinReach (expansion source) → IsStatus 0 status)
+      → ((kind : Kind) (budget : ℕ) (name : Bytes) → IsSolve words kind budget name → IsSolveStatus status)
       → ((name : Bytes) → IsMigrate words name → IsStatus 0 status)
       → IsGameStatus words bytes status
-  standing source text status far near migrated = record {
+  standing source text status solved migrated = record {
     faulty = λ fault path h. absurd (game_or_fault bytes source fault path text h);
-    far = λ name other solve h out. far name solve
-        (subst (λ (s : SourceOf). IsWithinReach (expansion s) → ⊥) (one_game bytes other source h text) out);
-    near = λ name other solve h reach. near name solve
-        (subst (λ (s : SourceOf). IsWithinReach (expansion s)) (one_game bytes other source h text) reach);
+    solved = λ kind budget name other solve h. solved kind budget name solve;
     migrated = λ name other migrate h. migrated name migrate;
   }
 
@@ -100,9 +96,18 @@ module _ (words : Words) (contents : Contents) (bytes : Bytes)
       → (status : ℕ) → IsGameStatus words bytes status
   using p g c asks source text status =
       standing source text status
-      (λ name solve out. absurd (no_solve words p g c Pure name asks solve))
-      (λ name solve reach. absurd (no_solve words p g c Pure name asks solve))
+      (λ kind budget name solve. absurd (no_solve words p g c kind budget name asks solve))
       (λ name migrate. absurd (no_migrate words p g c name asks migrate))
+
+  -- a solving is decided, or comes to an end
+  solving : (kind : Kind) (budget : ℕ) (source : SourceOf) → IsAskedSolve words contents kind budget source
+      → (status : ℕ) → IsSolveStatus status → IsGameStatus words bytes status
+  solving kind budget source asked status h =
+      let same = game_read asked.name asked.bytes (inl (kind, budget, asked.solve)) asked.read.content in
+      let stands = subst (λ (b : Bytes). IsGameText b source) (sym same) asked.game in
+      standing source stands status
+      (λ other limit name solve. h)
+      (λ name migrate. absurd (not_both words kind budget asked.name name asked.solve migrate))
 
   due_text : (p : Purpose) (source : SourceOf) (name : Bytes) → IsDueCert words contents p source name
       → IsGameText bytes source
@@ -118,22 +123,13 @@ module _ (words : Words) (contents : Contents) (bytes : Bytes)
   faulty_status : (fault : GameFault) (path : Bytes) → HasGameFault bytes fault path → IsGameStatus words bytes 5
   faulty_status fault path first = record {
     faulty = λ other at h. inl refl;
-    far = λ name source solve h out. absurd (game_or_fault bytes source fault path h first);
-    near = λ name source solve h reach. absurd (game_or_fault bytes source fault path h first);
+    solved = λ kind budget name source solve h. absurd (game_or_fault bytes source fault path h first);
     migrated = λ name source migrate h. absurd (game_or_fault bytes source fault path h first);
   }
 
-  -- a printed answer comes of a text that stands for a game within reach, of a check, or of a
-  -- canonical text
+  -- a printed answer comes of a text that decides the game, of a certificate, or of a canonical text
   pub answer_status : (text : Bytes) → IsAnswer words contents text → IsGameStatus words bytes 0
-  answer_status text (inl solved) =
-      let same = game_read solved.name solved.bytes (inl solved.solve) solved.read.content in
-      let source = solved.answered.source in
-      let stands = subst (λ (b : Bytes). IsGameText b source) (sym same) solved.answered.game in
-      standing source stands 0
-      (λ name solve out. absurd (out solved.answered.reach))
-      (λ name solve reach. inl refl)
-      (λ name migrate. inl refl)
+  answer_status text (inl solved) = solving solved.kind solved.budget solved.source solved.asked 0 (inl refl)
   answer_status text (inr (inl checked)) =
       due_status for_check checked.source checked.asked.name checked.asked.due 0
   answer_status text (inr (inr (inl best))) =
@@ -143,8 +139,7 @@ module _ (words : Words) (contents : Contents) (bytes : Bytes)
       let source = migrated.same.source in
       let stands = subst (λ (b : Bytes). IsGameText b source) (sym same) migrated.same.game in
       standing source stands 0
-      (λ name solve out. absurd (not_both words Pure name migrated.name solve migrated.migrate))
-      (λ name solve reach. inl refl)
+      (λ kind budget name solve. absurd (not_both words kind budget name migrated.name solve migrated.migrate))
       (λ name migrate. inl refl)
 
   -- a refusal that is no fault of shelf or sink comes of the game's bytes, or of the certificate, or
@@ -165,23 +160,16 @@ module _ (words : Words) (contents : Contents) (bytes : Bytes)
       faulty_status fault (string_bytes path) first
   refusal_status (Flawed number flaw) h three twelve =
       due_status h.purpose h.source h.asked.name h.asked.due 6
-  refusal_status (Ended end) h three twelve =
+  refusal_status (Ended Game end) h three twelve =
+      solving h.kind h.budget h.source h.asked (end_status end) (inr (inl (end_range end)))
+  refusal_status (Ended Cert end) h three twelve =
       due_status (for_best h.budget) h.source h.asked.name h.asked.due (end_status end)
   refusal_status NoMemory h three twelve = record {
     faulty = λ fault path f. inr refl;
-    far = λ name source solve f out. inr refl;
-    near = λ name source solve f reach. inr refl;
+    solved = λ kind budget name source solve f. inr (inr refl);
     migrated = λ name source migrate f. inr refl;
   }
   refusal_status WriteFault h three twelve = absurd (twelve refl)
-  refusal_status Unbuilt h three twelve = absurd (named_or_unbuilt words told.name told.named h)
-  refusal_status UnbuiltGame h three twelve =
-      let same = game_read h.name h.bytes (inl h.solve) h.read.content in
-      let text = subst (λ (b : Bytes). IsGameText b h.source) (sym same) h.game in
-      standing h.source text 16
-      (λ other solve out. inl refl)
-      (λ other solve reach. absurd (h.far reach))
-      (λ name migrate. absurd (not_both words Pure h.name name h.solve migrate))
 
 -- ---- certificates
 
@@ -291,7 +279,7 @@ module _ (words : Words) (contents : Contents) (purpose : Purpose) (source : Sou
   -- a printed answer comes of a right text
   pub told_answer : (text : Bytes) → IsAnswer words contents text → IsCertStatus purpose source bytes 0
   told_answer text (inl solved) =
-      absurd (no_solve words purpose told.game_name told.cert_name Pure solved.name told.asks solved.solve)
+      absurd (no_solve words purpose told.game_name told.cert_name solved.kind solved.budget solved.asked.name told.asks solved.asked.solve)
   told_answer text (inr (inl checked)) =
       same_status for_check checked.source checked.bytes checked.asked 0
       (inl (refl, (checked.accepted.cert, checked.accepted.shown)))
@@ -323,11 +311,10 @@ module _ (words : Words) (contents : Contents) (purpose : Purpose) (source : Sou
       let form = game_of_text h.asked.due.bytes h.source h.asked.due.text in
       same_status h.purpose h.source h.bytes h.asked 6
       (inr (inl (refl, flawed_apart h.purpose (expansion h.source) form h.bytes h.asked.read.within number flaw h.flawed)))
-  told_refusal (Ended end) h three twelve =
+  told_refusal (Ended Game end) h three twelve =
+      absurd (no_solve words purpose told.game_name told.cert_name h.kind h.budget h.asked.name told.asks h.asked.solve)
+  told_refusal (Ended Cert end) h three twelve =
       same_status (for_best h.budget) h.source h.bytes h.asked (end_status end)
       (inl (done_end end (expansion h.source) h.mixtures h.budget h.cause, (h.mixtures, h.profile)))
   told_refusal NoMemory h three twelve = inr (inr refl)
   told_refusal WriteFault h three twelve = absurd (twelve refl)
-  told_refusal Unbuilt h three twelve = absurd (named_or_unbuilt words told.game_name named h)
-  told_refusal UnbuiltGame h three twelve =
-      absurd (no_solve words purpose told.game_name told.cert_name Pure h.name told.asks h.solve)

@@ -1,7 +1,6 @@
 -- What is true of a game with its followers' conditions is true of the game as it was read.
-use Rattle.std.proofs.Common.{◌≡◌, List, length, ◌∙◌}
+use Rattle.std.proofs.Common.{◌≡◌, length, subst, ◌∙◌}
 use Rattle.std.proofs.lemmas.List.{length-map}
-use Rattle.zr_base.specs.Points.{PointOf}
 use Rattle.zr_game.specs.Profiles.{Profile}
 use Rattle.zr_game.specs.Equilibria.{HasNoEquilibrium, IsEquilibrium}
 use Rattle.zr_game.specs.declared.kind.Kind.{Kind}
@@ -11,10 +10,13 @@ use Rattle.zr_source.specs.SourceForms.{IsSource}
 use Rattle.zr_follow.specs.Expansion.{expanded, expansion}
 use Rattle.zr_follow.proofs.Equilibria.{equilibria, kinds_base, none_alike}
 use Rattle.zr_follow.proofs.Relations.{expansion_is}
-use Rattle.zr_trial.specs.First.{IsFirstEquilibrium, pure_profile}
 use Rattle.zr_cert.specs.Certs.{BoxVerdict, CoverVerdict, EmptyVerdict, ProfileVerdict, VerdictOf, profile_with}
 use Rattle.zr_check.specs.Truth.{IsTrueVerdict}
-use Rattle.zero.specs.Answers.{IsFound, IsTrueOf}
+use Rattle.zr_game.specs.Forms.{IsGame}
+use Rattle.zr_check.proofs.Truths.{true_of_right}
+use Rattle.zr_drive.specs.Verdicts.{IsVerdictText}
+use Rattle.zr_io.specs.Contents.{Bytes}
+use Rattle.zero.specs.Answers.{IsDecided, IsTrueOf}
 
 module _ (source : SourceOf) (form : IsSource source) where
   as_many : (profile : Profile) → IsEquilibrium (expansion source) profile → length profile ≡ length source
@@ -34,9 +36,15 @@ module _ (source : SourceOf) (form : IsSource source) where
   true_of kind (EmptyVerdict i nodes) none = none_of kind none
   true_of kind (BoxVerdict nodes) none = none_of kind none
 
-  pub found_of : (points : List PointOf) → IsFirstEquilibrium (expansion source) points → IsFound source points
-  found_of points first = record {
-    first = first;
-    equilibrium = (equilibria source form (expansion source) (expansion_is source)
-        (pure_profile points) first.equilibrium.valid).0 first.equilibrium;
-  }
+  -- the text of a right certificate decides the game
+  pub decided_of : IsGame (expansion source) → (kind : Kind) (text : Bytes) → IsVerdictText (expansion source) kind text
+      → IsDecided source kind text
+  decided_of game kind text v =
+      let truth = true_of_right (expansion source) game v.cert v.right.right in
+      record {
+        cert = v.cert;
+        kind_is = v.kind_is;
+        shown = record { is_text = v.text; right = v.right.right; narrow = v.right.narrow };
+        within = v.within;
+        truth = subst (λ (k : Kind). IsTrueOf source k v.cert.verdict) v.kind_is (true_of v.cert.kind v.cert.verdict truth);
+      }

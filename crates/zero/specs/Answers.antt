@@ -1,6 +1,5 @@
 -- What an answer says, and why there is none.
-use Rattle.std.specs.Prelude.{◌≡◌, ℕ, true, List, ◌++◌, length, Option, codes, ◌⊎◌}
-use Rattle.zr_base.specs.Points.{PointOf}
+use Rattle.std.specs.Prelude.{◌≡◌, ℕ, true, List, ◌≤◌, ◌++◌, length, Option, codes, ◌⊎◌}
 use Rattle.zr_game.specs.Players.{GameOf}
 use Rattle.zr_game.specs.Profiles.{IsOfKind}
 use Rattle.zr_game.specs.declared.kind.Kind.{Kind}
@@ -14,8 +13,7 @@ use Rattle.zr_follow.specs.BaseParts.{base_profile}
 use Rattle.zr_value.specs.declared.fault.GameFault.{GameFault}
 use Rattle.zr_read.specs.Texts.{StandsFor}
 use Rattle.zr_write.specs.Written.{IsWritten}
-use Rattle.zr_trial.specs.Reach.{IsWithinReach}
-use Rattle.zr_trial.specs.First.{IsFirstEquilibrium, pure_profile}
+use Rattle.zr_drive.specs.Ends.{IsEndOf}
 use Rattle.zr_cert.specs.declared.fault.CertFault.{CertFault}
 use Rattle.zr_cert.specs.declared.fault.CertFault.TheVariants as checks
 use Rattle.zr_cert.specs.Certs.{BoxVerdict, CertOf, CoverVerdict, EmptyVerdict, MixtureOf, ProfileVerdict, VerdictOf, profile_with}
@@ -31,38 +29,11 @@ use Rattle.zero.specs.BestTexts.{IsBestEnd, IsBestText, IsProfileText}
 use Rattle.zero.specs.Commands.{IsGameName, IsMigrate, IsSolve, Purpose, for_best, for_check}
 use Rattle.zero.specs.Games.{HasGameFault, IsGameText}
 use Rattle.zero.specs.Reads.{IsDueCert, IsRead, cert_limit, game_limit}
-use Rattle.zero.specs.ShortText.{line, none_text, profile_text}
+use Rattle.zero.specs.Endings.{line}
+use Rattle.zero.specs.declared.text.Text.{Text}
+use Rattle.zero.specs.declared.text.Text.TheVariants.{Game, Cert}
 use Rattle.zero.specs.declared.refusal.CertFlaw.{CertFlaw}
 use Rattle.zero.specs.declared.refusal.CertFlaw.TheVariants.{Form, Number, Wrong, Wide}
-
--- ---- solve
-
--- the points are the first pure equilibrium, in the order of trial, and one of the game as it was
--- read, in which followers answer optimally
-pub record IsFound (source : SourceOf) (points : List PointOf) : Type 0 where
-  pub first : IsFirstEquilibrium (expansion source) points
-  pub equilibrium : IsSourceEquilibrium source (base_profile source (pure_profile points))
-
--- the text of the first pure equilibrium, or that there is none
-abbrev pub IsShortAnswer : SourceOf → Bytes → Type 0
-IsShortAnswer source text =
-    ((points : List PointOf) × IsFound source points × (text ≡ profile_text (pure_profile points)))
-    ⊎ (HasNoSourceEquilibrium source Pure × (text ≡ none_text (length source)))
-
--- the bytes stand for a game within reach, and the text answers it
-pub record IsAnswered (bytes text : Bytes) : Type 0 where
-  pub source : SourceOf
-  pub game : IsGameText bytes source
-  pub reach : IsWithinReach (expansion source)
-  pub answer : IsShortAnswer source text
-
--- the words ask for a pure equilibrium of the game that was read
-pub record IsSolved (words : Words) (contents : Contents) (text : Bytes) : Type 0 where
-  pub name : Bytes
-  pub bytes : Bytes
-  pub solve : IsSolve words Pure name
-  pub read : IsRead contents game_limit name bytes
-  pub answered : IsAnswered bytes text
 
 -- ---- check
 
@@ -118,6 +89,43 @@ pub record IsChecked (words : Words) (contents : Contents) (text : Bytes) : Type
   pub asked : IsAskedCert words contents for_check source bytes
   pub accepted : IsAccepted source bytes text
 
+-- ---- solve
+
+-- the text is that of a certificate of the kind that is right for the game with its followers'
+-- conditions, so that a check accepts it, and its verdict is true of the game as it was read
+pub record IsDecided (source : SourceOf) (kind : Kind) (text : Bytes) : Type 0 where
+  pub cert : CertOf
+  pub kind_is : cert.kind ≡ kind
+  pub shown : IsRightText (expansion source) text cert
+  pub within : length text ≤ cert_limit
+  pub truth : IsTrueOf source kind cert.verdict
+
+-- the words ask for an equilibrium of the kind, within this budget, and the game text that was read
+-- stands for the game
+pub record IsAskedSolve (words : Words) (contents : Contents) (kind : Kind) (budget : ℕ)
+    (source : SourceOf) : Type 0 where
+  pub name : Bytes
+  pub bytes : Bytes
+  pub solve : IsSolve words kind budget name
+  pub read : IsRead contents game_limit name bytes
+  pub game : IsGameText bytes source
+
+-- they ask for it, and the text decides the game
+pub record IsSolved (words : Words) (contents : Contents) (text : Bytes) : Type 0 where
+  pub kind : Kind
+  pub budget : ℕ
+  pub source : SourceOf
+  pub asked : IsAskedSolve words contents kind budget source
+  pub decided : IsDecided source kind text
+
+-- they ask for it, and the work comes to this end
+pub record IsUndecided (words : Words) (contents : Contents) (end : End) : Type 0 where
+  pub kind : Kind
+  pub budget : ℕ
+  pub source : SourceOf
+  pub asked : IsAskedSolve words contents kind budget source
+  pub cause : IsEndOf (expansion source) kind budget end
+
 -- ---- best answers
 
 -- the words ask for best answers to the profile of the certificate that was read, in the game with
@@ -130,7 +138,7 @@ pub record IsBestAnswered (words : Words) (contents : Contents) (text : Bytes) :
   pub best : IsBestText (expansion source) bytes text
 
 -- they ask for them, and the work comes to this end
-pub record IsEnded (words : Words) (contents : Contents) (end : End) : Type 0 where
+pub record IsUnanswered (words : Words) (contents : Contents) (end : End) : Type 0 where
   pub budget : ℕ
   pub source : SourceOf
   pub bytes : Bytes
@@ -159,6 +167,12 @@ pub record IsMigrated (words : Words) (contents : Contents) (text : Bytes) : Typ
 
 -- ---- answers and refusals
 
+-- the work on what the words ask for comes to this end, once this text was taken: the game's, of
+-- which an equilibrium is asked for, or the certificate's, to which best answers are
+abbrev pub IsEnded : Words → Contents → Text → End → Type 0
+IsEnded words contents Game end = IsUndecided words contents end
+IsEnded words contents Cert end = IsUnanswered words contents end
+
 -- a true answer to the words
 abbrev pub IsAnswer : Words → Contents → Bytes → Type 0
 IsAnswer words contents text =
@@ -168,7 +182,7 @@ IsAnswer words contents text =
 -- a true report of why there is none
 abbrev pub IsReport : Words → Contents → Bytes → Type 0
 IsReport words contents text =
-    (end : End) × IsEnded words contents end × (text ≡ report_text end)
+    (last : Text) × (end : End) × IsEnded words contents last end × (text ≡ report_text end)
 
 -- a prefix of a true answer, or of a true report, went to the end of what was written before
 pub record HasBegun (words : Words) (contents : Contents) (before after : Option Bytes) : Type 0 where
@@ -184,16 +198,6 @@ pub record IsFaultyGame (words : Words) (contents : Contents) (fault : GameFault
   pub named : IsGameName words name
   pub read : IsRead contents game_limit name bytes
   pub first : HasGameFault bytes fault path
-
--- the words ask for a pure equilibrium of the game that was read, which is out of the trial's reach
-pub record IsUnbuiltGame (words : Words) (contents : Contents) : Type 0 where
-  pub name : Bytes
-  pub bytes : Bytes
-  pub source : SourceOf
-  pub solve : IsSolve words Pure name
-  pub read : IsRead contents game_limit name bytes
-  pub game : IsGameText bytes source
-  pub far : IsWithinReach (expansion source) → ⊥
 
 -- a line of the certificate is the first to be refused; for best answers the lines are those of the
 -- players and their parts, and a verdict that is no profile is refused too

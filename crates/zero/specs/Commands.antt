@@ -1,19 +1,19 @@
 -- What the words of the command line ask for.
 use Rattle.std.specs.Prelude.{◌≡◌, ◌⊎◌, ℕ}
 use Rattle.zr_game.specs.declared.kind.Kind.{Kind}
-use Rattle.zr_game.specs.declared.kind.Kind.TheVariants.{Pure, Mixed}
 use Rattle.zr_io.specs.Contents.{Bytes}
 use Rattle.zr_words.specs.Words.{Words}
 use Rattle.zr_words.specs.Commands.{Asks}
 use Rattle.zr_words.specs.declared.command.Command.{Command}
 use Rattle.zr_words.specs.declared.command.Command.TheVariants.{Solve, Check, Best, Migrate}
 
--- the command is to solve the game under this name, for this kind of strategies
-abbrev pub IsSolveOf : Kind → Bytes → Command → Type 0
-IsSolveOf kind name (Solve game options) = (game.now ≡ name) × (options.kind ≡ kind)
-IsSolveOf kind name (Check game cert) = ⊥
-IsSolveOf kind name (Best game cert options) = ⊥
-IsSolveOf kind name (Migrate game) = ⊥
+-- the command is to solve the game under this name, for this kind of strategies, within this budget
+abbrev pub IsSolveOf : Kind → ℕ → Bytes → Command → Type 0
+IsSolveOf kind budget name (Solve game options) =
+    (game.now ≡ name) × (options.kind ≡ kind) × (options.budget ≡ budget)
+IsSolveOf kind budget name (Check game cert) = ⊥
+IsSolveOf kind budget name (Best game cert options) = ⊥
+IsSolveOf kind budget name (Migrate game) = ⊥
 
 -- the command is to check the certificate for the game, each under its name
 abbrev pub IsCheckOf : Bytes → Bytes → Command → Type 0
@@ -38,9 +38,10 @@ IsMigrateOf name (Check game cert) = ⊥
 IsMigrateOf name (Best game cert options) = ⊥
 IsMigrateOf name (Migrate game) = game.now ≡ name
 
--- the words ask for an equilibrium of the kind
-abbrev pub IsSolve : Words → Kind → Bytes → Type 0
-IsSolve words kind name = (command : Command) × Asks words command × IsSolveOf kind name command
+-- the words ask for an equilibrium of the kind, within this budget
+abbrev pub IsSolve : Words → Kind → ℕ → Bytes → Type 0
+IsSolve words kind budget name =
+    (command : Command) × Asks words command × IsSolveOf kind budget name command
 
 abbrev pub IsCheck : Words → Bytes → Bytes → Type 0
 IsCheck words name cert = (command : Command) × Asks words command × IsCheckOf name cert command
@@ -62,12 +63,9 @@ abbrev pub IsPurpose : Words → Purpose → Bytes → Bytes → Type 0
 IsPurpose words for_check name cert = IsCheck words name cert
 IsPurpose words (for_best budget) name cert = IsBest words budget name cert
 
--- an equilibrium of mixed strategies isn't searched for yet
-abbrev pub IsUnbuiltCommand : Words → Type 0
-IsUnbuiltCommand words = (name : Bytes) × IsSolve words Mixed name
-
--- the words ask for something of the game under this name, which is done
+-- the words ask for something of the game under this name
 abbrev pub IsGameName : Words → Bytes → Type 0
 IsGameName words name =
-    IsSolve words Pure name ⊎ ((purpose : Purpose) × (cert : Bytes) × IsPurpose words purpose name cert)
+    ((kind : Kind) × (budget : ℕ) × IsSolve words kind budget name)
+    ⊎ ((purpose : Purpose) × (cert : Bytes) × IsPurpose words purpose name cert)
     ⊎ IsMigrate words name

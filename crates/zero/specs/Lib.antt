@@ -1,6 +1,6 @@
 pub mod Commands
 pub mod Games
-pub mod ShortText
+pub mod Endings
 pub mod Reads
 pub mod Messages
 pub mod BestTexts

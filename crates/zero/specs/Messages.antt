@@ -11,7 +11,7 @@ use Rattle.zero.specs.declared.refusal.CertFlaw.{CertFlaw}
 use Rattle.zero.specs.declared.refusal.CertFlaw.TheVariants.{Form, Number, Wrong, Wide}
 use Rattle.zero.specs.declared.text.Text.{Text}
 use Rattle.zero.specs.declared.text.Text.TheVariants.{Game, Cert}
-use Rattle.zero.specs.ShortText.{line}
+use Rattle.zero.specs.Endings.{line}
 
 -- a line of the program
 abbrev pub message : Bytes → Bytes

@@ -2,7 +2,9 @@
 use Rattle.std.specs.Prelude.{◌≡◌, ◌≢◌, ◌⊎◌, ℕ, ◌≤◌, ◌++◌, codes, String, string_bytes, List, Option, Some, None, Result, IfErr}
 use Rattle.std.specs.declared.alloc.Global.{Global}
 use Rattle.zr_game.specs.Players.{GameOf}
+use Rattle.zr_game.specs.declared.kind.Kind.{Kind}
 use Rattle.zr_cert.specs.Certs.{MixtureOf}
+use Rattle.zr_drive.specs.Ends.{IsEndOf}
 use Rattle.zr_io.specs.Contents.{Bytes, Contents}
 use Rattle.zr_io.specs.Faults.{Rose}
 use Rattle.zr_io.specs.Written.{Appends, AppendsPrefix}
@@ -10,7 +12,7 @@ use Rattle.zr_report.specs.declared.end.End.{End}
 use Rattle.zr_report.specs.declared.end.End.TheVariants as ends
 use Rattle.zr_report.specs.Spelling.{report_text}
 use Rattle.zero.specs.declared.refusal.Refusal.{Refusal}
-use Rattle.zero.specs.declared.refusal.Refusal.TheVariants.{Usage, CannotRead, TooLong, Faulty, Flawed, Ended, NoMemory, WriteFault, Unbuilt, UnbuiltGame}
+use Rattle.zero.specs.declared.refusal.Refusal.TheVariants.{Usage, CannotRead, TooLong, Faulty, Flawed, Ended, NoMemory, WriteFault}
 use Rattle.zero.specs.declared.text.Text.{Text}
 use Rattle.zero.specs.declared.text.Text.TheVariants.{Game, Cert}
 use Rattle.zr_words.specs.Words.{Words}
@@ -18,9 +20,9 @@ use Rattle.zr_words.specs.declared.reading.Refused.{Refused}
 use Rattle.zr_words.specs.declared.reading.Refused.TheVariants as words
 use Rattle.zr_words.specs.Commands.{AreOfNoAction, IsMisspelt}
 use Rattle.zero.specs.BestTexts.{IsBestEnd, IsProfileText}
-use Rattle.zero.specs.Commands.{IsGameName, IsUnbuiltCommand}
+use Rattle.zero.specs.Commands.{IsGameName}
 use Rattle.zero.specs.Reads.{IsDue, IsLastTake, IsLong}
-use Rattle.zero.specs.Answers.{IsEnded, IsFaultyGame, IsRefusedCert, IsUnbuiltGame}
+use Rattle.zero.specs.Answers.{IsEnded, IsFaultyGame, IsRefusedCert}
 use Rattle.zero.specs.Messages.{end_line, fault_line, flaw_line, long_line, message}
 
 -- ---- what each refusal is
@@ -47,11 +49,9 @@ status_of (CannotRead text name) = 3
 status_of (TooLong text name) = 4
 status_of (Faulty fault path) = 5
 status_of (Flawed number flaw) = 6
-status_of (Ended end) = end_status end
+status_of (Ended last end) = end_status end
 status_of NoMemory = 11
 status_of WriteFault = 12
-status_of Unbuilt = 16
-status_of UnbuiltGame = 16
 
 -- what is said of words that are of no action: what `clap` says of their form, and a line
 abbrev pub usage_text : Option (String Global) → Bytes
@@ -65,11 +65,9 @@ line_of (CannotRead text name) = message (codes "cannot read " ++ name.now)
 line_of (TooLong text name) = long_line text name.now
 line_of (Faulty fault path) = fault_line fault (string_bytes path)
 line_of (Flawed number flaw) = flaw_line number flaw
-line_of (Ended end) = end_line end
+line_of (Ended last end) = end_line end
 line_of NoMemory = message (codes "no memory")
 line_of WriteFault = message (codes "write fault")
-line_of Unbuilt = message (codes "not built yet")
-line_of UnbuiltGame = message (codes "not built yet")
 
 -- the words name a game; an answer is written only then
 abbrev pub NamesGame : Words → Type 0
@@ -88,11 +86,9 @@ IsCause words contents (CannotRead text name) = IsDue words contents text name.n
 IsCause words contents (TooLong text name) = IsLong words contents text name.now
 IsCause words contents (Faulty fault path) = IsFaultyGame words contents fault (string_bytes path)
 IsCause words contents (Flawed number flaw) = IsRefusedCert words contents number flaw
-IsCause words contents (Ended end) = IsEnded words contents end
+IsCause words contents (Ended last end) = IsEnded words contents last end
 IsCause words contents NoMemory = Unit {0}
 IsCause words contents WriteFault = NamesGame words
-IsCause words contents Unbuilt = IsUnbuiltCommand words
-IsCause words contents UnbuiltGame = IsUnbuiltGame words contents
 
 -- what was taken before the refusal, by the counts of takes: nothing, or last the text that it speaks of
 abbrev pub HasTaken : ℕ → ℕ → Refusal → Type 0
@@ -101,11 +97,9 @@ HasTaken before after (CannotRead text name) = IsLastTake text before after
 HasTaken before after (TooLong text name) = IsLastTake text before after
 HasTaken before after (Faulty fault path) = IsLastTake Game before after
 HasTaken before after (Flawed number flaw) = IsLastTake Cert before after
-HasTaken before after (Ended end) = IsLastTake Cert before after
+HasTaken before after (Ended last end) = IsLastTake last before after
 HasTaken before after NoMemory = Unit {0}
 HasTaken before after WriteFault = Unit {0}
-HasTaken before after Unbuilt = after ≡ before
-HasTaken before after UnbuiltGame = IsLastTake Game before after
 
 -- ---- what the program says
 
@@ -143,27 +137,30 @@ HasReported before after (CannotRead text name) = Unit {0}
 HasReported before after (TooLong text name) = Unit {0}
 HasReported before after (Faulty fault path) = Unit {0}
 HasReported before after (Flawed number flaw) = Unit {0}
-HasReported before after (Ended end) = Appends before (report_text end) after
+HasReported before after (Ended last end) = Appends before (report_text end) after
 HasReported before after NoMemory = Unit {0}
 HasReported before after WriteFault = Unit {0}
-HasReported before after Unbuilt = Unit {0}
-HasReported before after UnbuiltGame = Unit {0}
 
 -- the refusal once the report of an end was to be written: the end where it was written whole, else
 -- want of memory or a fault of what it is written to, after a prefix of it
-pub record IsReported (end : End) (before after : Option Bytes) (old new : ℕ) (refusal : Refusal)
+pub record IsReported (last : Text) (end : End) (before after : Option Bytes) (old new : ℕ) (refusal : Refusal)
     : Type 0 where
-  pub refusal_is : (refusal ≡ Ended end) ⊎ (refusal ≡ NoMemory) ⊎ (refusal ≡ WriteFault)
+  pub refusal_is : (refusal ≡ Ended last end) ⊎ (refusal ≡ NoMemory) ⊎ (refusal ≡ WriteFault)
   pub written : HasReported before after refusal
-  pub begun : refusal ≢ Ended end → AppendsPrefix before (report_text end) after
+  pub begun : refusal ≢ Ended last end → AppendsPrefix before (report_text end) after
   pub failed : refusal ≡ WriteFault → Rose old new
 
 -- a refusal that comes of the search for best answers: want of memory, or the search's end
 abbrev pub ComesOfSearch : GameOf → List MixtureOf → ℕ → Refusal → Type 0
 ComesOfSearch game mixtures budget refusal = (refusal ≡ NoMemory)
-    ⊎ ((end : End) × (refusal ≡ Ended end) × IsBestEnd game mixtures budget end)
+    ⊎ ((end : End) × (refusal ≡ Ended Cert end) × IsBestEnd game mixtures budget end)
 
--- the same for the profile of these bytes
+-- a refusal that comes of the work on an equilibrium: want of memory, or the work's end
+abbrev pub ComesOfWork : GameOf → Kind → ℕ → Refusal → Type 0
+ComesOfWork game kind budget refusal = (refusal ≡ NoMemory)
+    ⊎ ((end : End) × (refusal ≡ Ended Game end) × IsEndOf game kind budget end)
+
+-- a refusal that comes of the search, for the profile of these bytes
 abbrev pub IsStopped : GameOf → Bytes → ℕ → Refusal → Type 0
 IsStopped game bytes budget refusal =
     (mixtures : List MixtureOf) × IsProfileText game bytes mixtures

@@ -1,11 +1,10 @@
 -- What comes of texts that the shelf tells.
 use Rattle.std.specs.Prelude.{◌≡◌, ℕ, ◌≤◌, ◌⊎◌, List}
 use Rattle.zr_io.specs.Contents.{Bytes, Contents}
-use Rattle.zr_game.specs.declared.kind.Kind.TheVariants.{Pure}
+use Rattle.zr_game.specs.declared.kind.Kind.{Kind}
 use Rattle.zr_source.specs.Sources.{SourceOf}
 use Rattle.zr_follow.specs.Expansion.{expansion}
 use Rattle.zr_value.specs.declared.fault.GameFault.{GameFault}
-use Rattle.zr_trial.specs.Reach.{IsWithinReach}
 use Rattle.zr_game.specs.Players.{GameOf}
 use Rattle.zr_cert.specs.Certs.{CertOf, MixtureOf}
 use Rattle.zr_words.specs.Words.{Words}
@@ -14,6 +13,7 @@ use Rattle.zero.specs.Commands.{IsGameName, IsMigrate, IsPurpose, IsSolve, Purpo
 use Rattle.zero.specs.Games.{HasGameFault, IsGameText}
 use Rattle.zero.specs.Reads.{IsTold, cert_limit, game_limit}
 use Rattle.zero.specs.Answers.{IsRightText}
+use Rattle.zero.specs.Refusals.{IsEndStatus}
 
 -- this status, or that of want of memory, which is free
 abbrev pub IsStatus : ℕ → ℕ → Type 0
@@ -27,13 +27,15 @@ pub record IsToldGame (words : Words) (contents : Contents) (bytes : Bytes) : Ty
   pub named : IsGameName words name
   pub told : IsTold contents game_limit name bytes
 
+-- the game is decided, or the work on it came to an end; want of memory is free
+abbrev pub IsSolveStatus : ℕ → Type 0
+IsSolveStatus status = (status ≡ 0) ⊎ IsEndStatus status ⊎ (status ≡ 11)
+
 -- the status that the bytes of the game's text settle
 pub record IsGameStatus (words : Words) (bytes : Bytes) (status : ℕ) : Type 0 where
   pub faulty : (fault : GameFault) (path : Bytes) → HasGameFault bytes fault path → IsStatus 5 status
-  pub far : (name : Bytes) (source : SourceOf) → IsSolve words Pure name → IsGameText bytes source
-      → (IsWithinReach (expansion source) → ⊥) → IsStatus 16 status
-  pub near : (name : Bytes) (source : SourceOf) → IsSolve words Pure name → IsGameText bytes source
-      → IsWithinReach (expansion source) → IsStatus 0 status
+  pub solved : (kind : Kind) (budget : ℕ) (name : Bytes) (source : SourceOf)
+      → IsSolve words kind budget name → IsGameText bytes source → IsSolveStatus status
   pub migrated : (name : Bytes) (source : SourceOf) → IsMigrate words name
       → IsGameText bytes source → IsStatus 0 status
 

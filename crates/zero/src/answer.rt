@@ -4,7 +4,7 @@ ghost use Rattle.zr_words.specs.Words.{Words, spelled};
 ghost use Rattle.zr_words.specs.Commands.{Asks};
 ghost use Rattle.zr_words.specs.Matches.{IsRefusal};
 ghost use Rattle.zr_words.specs.declared.command.Command.{Command as CommandView};
-ghost use Rattle.zero.specs.Commands.{IsGameName, IsUnbuiltCommand};
+ghost use Rattle.zero.specs.Commands.{IsGameName};
 ghost use Rattle.zero.specs.Answers.{IsAnswer};
 ghost use Rattle.zero.specs.Reads.{Lacks};
 ghost use Rattle.zero.specs.Refusals.{ComesOfWords, HasTaken, IsCause, Keeps, refusal_for, status_of};
@@ -16,7 +16,6 @@ use crate::migrate::migrate;
 use crate::refusal::Refusal;
 use crate::solve::solve;
 use std::alloc::Global;
-use zr_game::Kind;
 use zr_io::Shelf;
 use zr_words::{Command, Refused, read_words};
 
@@ -38,10 +37,9 @@ pub fn answer_to<'w, S: Shelf>(
     ensures unwritten { IfErr result (λ refusal. status_of refusal ≢ 12) }
 {
     match command_of(alloc, words)? {
-        Command::Solve { game, options } => match options.kind {
-            Kind::Pure => solve(alloc, game, shelf),
-            Kind::Mixed => Err(Refusal::Unbuilt),
-        },
+        Command::Solve { game, options } => {
+            solve(alloc, game, options.kind, options.budget, shelf)
+        }
         Command::Check { game, cert } => check(alloc, game, cert, shelf),
         Command::Best {
             game,

@@ -23,6 +23,7 @@ ghost use Rattle.zero.specs.Refusals.{ComesOf, ComesOfSearch, HasTaken, IsCause,
 
 use crate::reading::{Reading, both_texts, cert_in};
 use crate::refusal::{CertFlaw, Refusal};
+use crate::text::Text;
 use std::alloc::Global;
 use zr_best::BestStop;
 use zr_check::{Cert, CertFault, Verdict, check_profile, scratch_for};
@@ -140,17 +141,21 @@ fn ended<'w>(alloc: Global, budget: u32, stop: BestStop) -> Refusal<'w>
 {
     match stop {
         BestStop::Spent => Refusal::Ended {
+            last: Text::Cert,
             end: End::Budget {
                 limit: u64::from(budget),
             },
         },
         BestStop::Wide(asked) => Refusal::Ended {
+            last: Text::Cert,
             end: End::Stuck(asked),
         },
         BestStop::Step(wide) => Refusal::Ended {
+            last: Text::Cert,
             end: End::Step(wide),
         },
         BestStop::Endless { player, var, dir } => Refusal::Ended {
+            last: Text::Cert,
             end: End::Open {
                 player,
                 var,

@@ -1,10 +1,9 @@
 //! Equilibria of integer programming games, and the check of certificates.
 //!
-//! `zero solve GAME --kind pure` decides whether a game has an equilibrium in which each player
-//! plays one point. `zero check GAME CERT` tells whether a certificate is right for a game, and
-//! `zero best GAME CERT` what each player can get at best against a certificate's profile.
-//! `zero migrate GAME` writes a game's text in today's form. GAME and CERT are files, or `-` for
-//! standard input.
+//! `zero solve GAME` decides whether a game has an equilibrium, and writes a certificate.
+//! `zero check GAME CERT` tells whether a certificate is right for a game, and `zero best GAME CERT`
+//! what each player can get at best against a certificate's profile. `zero migrate GAME` writes a
+//! game's text in today's form. GAME and CERT are files, or `-` for standard input.
 #![tactic(auto)]
 
 mod answer;
@@ -16,7 +15,6 @@ mod pieces;
 mod reading;
 mod refusal;
 mod run;
-mod short;
 mod solve;
 #[cfg(test)]
 mod tests;

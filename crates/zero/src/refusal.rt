@@ -58,16 +58,12 @@ pub enum Refusal<'a> {
     Faulty { fault: GameFault, path: String },
     /// The certificate's text is refused at this line, the first one that is, counted from 1.
     Flawed { line: u32, flaw: CertFlaw },
-    /// The work came to this end without an answer.
-    Ended { end: End },
+    /// The work came to this end without an answer, once this text was taken.
+    Ended { last: Text, end: End },
     /// There was no memory.
     NoMemory,
     /// The answer couldn't be written.
     WriteFault,
-    /// The words ask for what isn't built yet.
-    Unbuilt,
-    /// The game is of a kind that isn't built yet.
-    UnbuiltGame,
 }
 
 impl Refusal<'_> {
@@ -81,10 +77,9 @@ impl Refusal<'_> {
             Refusal::TooLong { .. } => 4,
             Refusal::Faulty { .. } => 5,
             Refusal::Flawed { .. } => 6,
-            Refusal::Ended { end } => status_of_end(end),
+            Refusal::Ended { end, .. } => status_of_end(end),
             Refusal::NoMemory => 11,
             Refusal::WriteFault => 12,
-            Refusal::Unbuilt | Refusal::UnbuiltGame => 16,
         }
     }
 
@@ -105,10 +100,9 @@ impl Refusal<'_> {
             Refusal::TooLong { text, name } => put_named(err, "zero: ", name, text.excess()),
             Refusal::Faulty { fault, path } => put_fault(err, *fault, path.as_str()),
             Refusal::Flawed { line, flaw } => put_flaw(err, *line, *flaw),
-            Refusal::Ended { end } => put_end(err, end),
+            Refusal::Ended { end, .. } => put_end(err, end),
             Refusal::NoMemory => put_all(err, b"zero: no memory\n"),
             Refusal::WriteFault => put_all(err, b"zero: write fault\n"),
-            Refusal::Unbuilt | Refusal::UnbuiltGame => put_all(err, b"zero: not built yet\n"),
         }
     }
 }

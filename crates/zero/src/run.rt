@@ -11,8 +11,8 @@ ghost use Rattle.zr_words.specs.Words.{spelled};
 ghost use Rattle.zr_words.specs.Commands.{IsFaulty};
 ghost use Rattle.zr_report.specs.Spelling.{report_text};
 ghost use Rattle.zr_report.specs.declared.end.End.{End as EndView};
-ghost use Rattle.zero.specs.Commands.{IsGameName, IsUnbuiltCommand, Purpose};
-ghost use Rattle.zero.specs.Answers.{HasBegun, IsAnswer, IsEnded, IsFaultyGame, IsRefusedCert, IsUnbuiltGame};
+ghost use Rattle.zero.specs.Commands.{IsGameName, Purpose};
+ghost use Rattle.zero.specs.Answers.{HasBegun, IsAnswer, IsEnded, IsFaultyGame, IsRefusedCert};
 ghost use Rattle.zero.specs.Reads.{IsDue, IsLastTake, IsLong, Lacks};
 ghost use Rattle.zero.specs.Refusals.{HasReported, HasTaken, IsCause, IsEndStatus, IsLine, IsReported, Keeps, end_status, status_of};
 ghost use Rattle.zero.specs.Outcomes.{IsOutcome};
@@ -20,6 +20,7 @@ ghost use Rattle.zero.specs.Told.{IsCertStatus, IsGameStatus, IsStatus, IsToldCe
 
 use crate::answer::answer_to;
 use crate::refusal::Refusal;
+use crate::text::Text;
 use std::alloc::Global;
 use zr_io::{Shelf, Sink, SinkError, put_all};
 use zr_report::{End, write_report};
@@ -38,12 +39,12 @@ use zr_report::{End, write_report};
 /// | 4 | the game text is longer than 8,388,608 bytes, or the certificate's than 67,108,864 |
 /// | 5 | the game text has a fault, the first of which is named with its path |
 /// | 6 | the certificate is refused, and its first line that is so is named |
-/// | 7 | the budget was spent, and the report that says so was written whole, as under 8 and 9 |
-/// | 8 | a linear program or a step of arithmetic was too wide |
-/// | 9 | a ray changes a whole variable, and the least cost is open |
+/// | 7 | the budget was spent, and the report that says so was written whole, as under 8 to 10 |
+/// | 8 | a linear program, a step of arithmetic or a certificate's check was too wide |
+/// | 9 | a ray changes a whole variable, and the answer is open |
+/// | 10 | the system or the certificate's text was too large |
 /// | 11 | there was no memory |
 /// | 12 | `out` failed |
-/// | 16 | the words or the game are of a kind that isn't built yet |
 pub fn zero_run<S: Shelf, O: Sink, E: Sink>(
     alloc: Global,
     words: &[String],
@@ -74,17 +75,14 @@ pub fn zero_run<S: Shelf, O: Sink, E: Sink>(
     ensures refused { result ≡ 6 → (number : ℕ) × (flaw : CertFlaw)
         × IsRefusedCert (spelled words.now) (S.contents shelf.old) number flaw
         × IsLastTake Cert (S.takes_of shelf.old) (S.takes_of shelf.new) }
-    ensures ended { IsEndStatus result → (end : EndView) × (result ≡ end_status end)
-        × IsEnded (spelled words.now) (S.contents shelf.old) end
-        × IsLastTake Cert (S.takes_of shelf.old) (S.takes_of shelf.new)
+    ensures ended { IsEndStatus result → (last : Kept) × (end : EndView)
+        × (result ≡ end_status end)
+        × IsEnded (spelled words.now) (S.contents shelf.old) last end
+        × IsLastTake last (S.takes_of shelf.old) (S.takes_of shelf.new)
         × Appends (O.written out.old) (report_text end) (O.written out.new) }
     ensures unwritten { result ≡ 12 → Rose (O.faults_of out.old) (O.faults_of out.new)
         × HasBegun (spelled words.now) (S.contents shelf.old)
         (O.written out.old) (O.written out.new) }
-    ensures unbuilt { result ≡ 16 → IsUnbuiltCommand (spelled words.now)
-        ⊎ (IsUnbuiltGame (spelled words.now) (S.contents shelf.old)
-        × IsLastTake Game (S.takes_of shelf.old) (S.takes_of shelf.new)) }
-    ensures unbuilt_command { IsUnbuiltCommand (spelled words.now) → IsStatus 16 result }
 
     // A game text that is told, within its limit, with no fault of the shelf or of `out`: its bytes
     // settle the status, but for want of memory.
@@ -176,14 +174,14 @@ fn reported<'w, O: Sink>(alloc: Global, refusal: Refusal<'w>, out: &mut O) -> Re
     ensures counts { O.faults_of out.old ≤ O.faults_of out.new }
 {
     match refusal {
-        Refusal::Ended { end } => report(alloc, end, out),
+        Refusal::Ended { last, end } => report(alloc, last, end, out),
         other => other,
     }
 }
 
 /// Writes the report of an end, and gives the refusal that goes with it then.
-fn report<'w, O: Sink>(alloc: Global, end: End, out: &mut O) -> Refusal<'w>
-    ensures reported { IsReported end (O.written out.old) (O.written out.new)
+fn report<'w, O: Sink>(alloc: Global, last: Text, end: End, out: &mut O) -> Refusal<'w>
+    ensures reported { IsReported last end (O.written out.old) (O.written out.new)
         (O.faults_of out.old) (O.faults_of out.new) result }
     ensures counts { O.faults_of out.old ≤ O.faults_of out.new }
 {
@@ -191,7 +189,7 @@ fn report<'w, O: Sink>(alloc: Global, end: End, out: &mut O) -> Refusal<'w>
         return Refusal::NoMemory;
     };
     match put_all(out, text.as_slice()) {
-        Ok(()) => Refusal::Ended { end },
+        Ok(()) => Refusal::Ended { last, end },
         Err(SinkError::Failed) => Refusal::WriteFault,
         Err(SinkError::NoMemory) => Refusal::NoMemory,
     }

@@ -35,11 +35,25 @@ const TENTHS: &str =
 const CONTINUOUS: &str =
     r#"{"format":"zero-game/1","players":[{"name":"A","vars":[{"name":"x","up":1}],"cost":[["x",-1]]}]}"#;
 
-const FOUND: &str =
-    "zero-short/1\nkind pure 1\nverdict profile\nplayer 0 total 1 parts 1\npart 1 1 1\nend\n";
+const FOUND: &str = "zero-cert/1
+kind pure 1
+verdict profile
+player 0 total 1 parts 1
+part 1 1 1
+cost 0 -1 1
+leaf 1 1 1 1
+end
+";
 
-const PACKED: &str =
-    "zero-short/1\nkind pure 2\nverdict profile\nplayer 0 total 1 parts 1\npart 1 1 0 1\nplayer 1 total 1 parts 1\npart 1 1 1 0\nend\n";
+const FOUND_MIXED: &str = "zero-cert/1
+kind mixed 1
+verdict profile
+player 0 total 1 parts 1
+part 1 1 1
+cost 0 -1 1
+leaf 1 1 1 1
+end
+";
 
 const HALF: &str = r#"{"format":"zero-game/1","players":[
 {"name":"A","vars":[{"name":"x","int":true}],
@@ -117,7 +131,18 @@ end
 const MIGRATED: &str =
     r#"{"format":"zero-game/2","players":[{"cost":[["x",-1]],"cross":[],"followers":[],"name":"A","pairs":[],"rows":[],"vars":[{"int":true,"low":0,"name":"x","up":1}]}]}"#;
 
-const NO_PENNIES: &str = "zero-short/1\nkind pure 2\nverdict none\nend\n";
+const NO_PENNIES: &str = "zero-cert/1
+kind pure 2
+verdict none boxes
+split 0 0 0
+split 1 0 0
+deviate 0 1 1
+deviate 1 1 0
+split 1 0 0
+deviate 1 1 1
+deviate 0 1 0
+end
+";
 
 /// What a run over a shelf and sinks in memory gives.
 #[derive(Drop)]
@@ -175,8 +200,8 @@ fn compare(rt: &impl Abort, ran: &Run, want: (u8, &str, &str)) {
 fn games_are_solved(rt: HostRuntime) -> Result<(), Fail> {
     for (text, answer) in [
         (ONE_BINARY, FOUND),
-        (KNAPSACK, PACKED),
         (PENNIES, NO_PENNIES),
+        (MIXED_PENNIES, MIXED_PENNIES_CERT),
     ] {
         let ran = run_over(rt.alloc(), SOLVE, &[("g", text.as_bytes())], [None; 3])?;
         compare(&rt, &ran, (0, answer, ""));
@@ -250,8 +275,8 @@ fn options_are_read(rt: HostRuntime) -> Result<(), Fail> {
             (0, FOUND, ""),
         ),
         ("solve --kind pure -- g", (0, FOUND, "")),
-        ("solve g", (16, "", "zero: not built yet\n")),
-        ("solve g --kind mixed", (16, "", "zero: not built yet\n")),
+        ("solve g", (0, FOUND_MIXED, "")),
+        ("solve g --kind mixed", (0, FOUND_MIXED, "")),
         ("migrate g", (0, MIGRATED, "")),
     ] {
         let ran = run_over(rt.alloc(), line, &[("g", ONE_BINARY.as_bytes())], [None; 3])?;
@@ -281,8 +306,6 @@ fn contents_are_refused(rt: HostRuntime) -> Result<(), Fail> {
             "zero: game: NotWhole /players/0/cost/0/1\n",
         ),
         ("g", b"[]".as_slice(), 5, "zero: game: Kind \n"),
-        ("g", CONTINUOUS.as_bytes(), 16, "zero: not built yet\n"),
-        ("g", MIXED_PENNIES.as_bytes(), 16, "zero: not built yet\n"),
     ] {
         let ran = run_over(alloc, SOLVE, &[(name, content)], [None; 3])?;
         compare(&rt, &ran, (status, "", said));

@@ -1,7 +1,7 @@
 ghost use Rattle.std.specs.Prelude.{◌≡◌};
 ghost use Rattle.zero.specs.Messages.{excess};
 ghost use Rattle.zero.specs.Reads.{limit_of};
-ghost use Rattle.zero.specs.ShortText.{line};
+ghost use Rattle.zero.specs.Endings.{line};
 
 /// Which text stands under a name.
 #[derive(Clone, Copy, Debug, PartialEq, Eq)]

@@ -1,6 +1,5 @@
 use Rattle.std.proofs.Common.{rules, ◌≡◌, refl, inl, inr, ap, subst, ⊎_elim}
 use Rattle.zr_io.specs.Contents.{Bytes}
-use Rattle.zr_game.specs.declared.kind.Kind.TheVariants.{Pure}
 use Rattle.zr_words.specs.Words.{spelled}
 use Rattle.zr_words.specs.Commands.{Asks}
 use Rattle.zr_words.specs.declared.command.Command.TheVariants.{Solve, Check, Best, Migrate}
@@ -10,7 +9,7 @@ use Rattle.zero.specs.Refusals.{status_of}
 use Rattle.zero.specs.Told.{IsStatus}
 use Rattle.zero.proofs.CauseLemmas.{err_and}
 use Rattle.zero.proofs.StatusLemmas.{faulty_of_help}
-use Rattle.zero.proofs.CommandLemmas.{named_or_faulty, named_or_unbuilt, one_name}
+use Rattle.zero.proofs.CommandLemmas.{named_or_faulty, one_name}
 use Rattle.zero.proofs.answer.answer_to.Goals as goal
 
 pub returns-in_err-game-clause-lacks : goal.returns-in_err-game-clause-lacks
@@ -22,54 +21,31 @@ returns-in_err-game-clause-lacks g c = λ name named lacks.
     (faulty_of_help words (g.S.Shelf.contents c.args.shelf.now) f.0 f.2))) c.in_err-game.ensures.err in
     search (rules, h)
 
--- ---- a pure equilibrium
+-- ---- an equilibrium
 
-pub returns-in-Pure-clause-err : goal.returns-in-Pure-clause-err
-returns-in-Pure-clause-err g c =
+pub returns-in-Solve-clause-err : goal.returns-in-Solve-clause-err
+returns-in-Solve-clause-err g c =
     let words = spelled c.args.words.now in
     c.solve.ensures.err words (
       Solve c.in-Solve.game c.in-Solve.options,
       subst (Asks words) c.in-Solve.is c.in_ok-game.ensures.ok,
-      (refl, c.in-Pure.is),
+      (refl, refl, refl),
     )
 
-pub returns-in-Pure-clause-lacks : goal.returns-in-Pure-clause-lacks
-returns-in-Pure-clause-lacks g c = λ name named lacks.
+pub returns-in-Solve-clause-lacks : goal.returns-in-Solve-clause-lacks
+returns-in-Solve-clause-lacks g c = λ name named lacks.
     let words = spelled c.args.words.now in
-    let asks : IsSolve words Pure c.in-Solve.game.now = (
+    let kind = c.in-Solve.options.kind in
+    let budget = c.in-Solve.options.budget in
+    let asks : IsSolve words kind budget c.in-Solve.game.now = (
       Solve c.in-Solve.game c.in-Solve.options,
       subst (Asks words) c.in-Solve.is c.in_ok-game.ensures.ok,
-      (refl, c.in-Pure.is),
+      (refl, refl, refl),
     ) in
-    let same = one_name words name c.in-Solve.game.now named (inl asks) in
+    let same = one_name words name c.in-Solve.game.now named (inl (kind, budget, asks)) in
     let here = subst (λ (n : Bytes). Lacks (g.S.Shelf.contents c.args.shelf.now) n) same lacks in
     err_and c.solve.result (λ refusal. status_of refusal ≡ 3) (λ refusal. IsStatus 3 (status_of refusal))
     (λ refusal e. inl e) (c.solve.ensures.lacks here)
-
--- ---- a mixed one
-
-pub returns-in-Mixed-clause-err : goal.returns-in-Mixed-clause-err
-returns-in-Mixed-clause-err g c =
-    let words = spelled c.args.words.now in (
-      c.in-Solve.game.now,
-      (
-        Solve c.in-Solve.game c.in-Solve.options,
-        subst (Asks words) c.in-Solve.is c.in_ok-game.ensures.ok,
-        (refl, c.in-Mixed.is),
-      ),
-    )
-
-pub returns-in-Mixed-clause-lacks : goal.returns-in-Mixed-clause-lacks
-returns-in-Mixed-clause-lacks g c = λ name named lacks.
-    let words = spelled c.args.words.now in
-    absurd (named_or_unbuilt words name named (
-      c.in-Solve.game.now,
-      (
-        Solve c.in-Solve.game c.in-Solve.options,
-        subst (Asks words) c.in-Solve.is c.in_ok-game.ensures.ok,
-        (refl, c.in-Mixed.is),
-      ),
-    ))
 
 -- ---- a check
 

@@ -4,9 +4,9 @@ use Rattle.zero.specs.Answers.{HasBegun}
 use Rattle.zero.specs.Refusals.{IsEndStatus, line_of}
 use Rattle.zero.specs.Told.{IsCertStatus, IsGameStatus, IsStatus}
 use Rattle.zero.proofs.CauseLemmas.{names_of_answer}
-use Rattle.zero.proofs.CommandLemmas.{named_or_faulty, named_or_unbuilt}
-use Rattle.zero.proofs.StatusLemmas.{faulty_status, unbuilt_status, usage_of}
-use Rattle.zero.proofs.LineLemmas.{ended_of, fault_of, flaw_of, long_of, unbuilt_of, unread_of}
+use Rattle.zero.proofs.CommandLemmas.{named_or_faulty}
+use Rattle.zero.proofs.StatusLemmas.{faulty_status, usage_of}
+use Rattle.zero.proofs.LineLemmas.{ended_of, fault_of, flaw_of, long_of, unread_of}
 use Rattle.zero.proofs.ToldLemmas.{answer_status, refusal_status, told_answer, told_refusal}
 use Rattle.zero.proofs.WritingLemmas.{line_written}
 use Rattle.zero.proofs.run.zero_run.Goals as goal
@@ -41,17 +41,13 @@ pub returns-in-Err-clause-ended : goal.returns-in-Err-clause-ended
 returns-in-Err-clause-ended g c = λ ends.
     let is = subst IsEndStatus c.status.ensures ends in
     let h = ended_of (spelled c.args.words.now) (g.S.Shelf.contents c.args.shelf.now) _ _ (g.O.Sink.written c.args.out.now) (g.O.Sink.written c.answer.new.out) c.in-Err.refusal c.in-Err.ensures.err c.in-Err.ensures.taken c.in-Err.ensures.reported is in
-    (h.0, c.status.ensures ∙ h.1, h.2, h.3, h.4)
+    (h.0, h.1, c.status.ensures ∙ h.2, h.3, h.4, h.5)
 
 pub returns-in-Err-clause-begun : goal.returns-in-Err-clause-begun
 returns-in-Err-clause-begun g c = λ other.
     let before = g.O.Sink.written c.args.out.now in
     let after = g.O.Sink.written c.answer.new.out in
     subst (λ s. (after ≡ before) ⊎ IsEndStatus s ⊎ (((s ≡ 11) ⊎ (s ≡ 12)) × HasBegun (spelled c.args.words.now) (g.S.Shelf.contents c.args.shelf.now) before after)) (sym c.status.ensures) c.in-Err.ensures.begun
-
-pub returns-in-Err-clause-unbuilt : goal.returns-in-Err-clause-unbuilt
-returns-in-Err-clause-unbuilt g c = λ sixteen.
-    unbuilt_of (spelled c.args.words.now) (g.S.Shelf.contents c.args.shelf.now) _ _ c.in-Err.refusal c.in-Err.ensures.err c.in-Err.ensures.taken (sym c.status.ensures ∙ sixteen)
 
 pub returns-in-Err-clause-lacks : goal.returns-in-Err-clause-lacks
 returns-in-Err-clause-lacks g c = λ name named lacks.
@@ -65,10 +61,6 @@ pub returns-in-Err-clause-faulty_words : goal.returns-in-Err-clause-faulty_words
 returns-in-Err-clause-faulty_words g c = λ faulty.
     subst (IsStatus 2) (sym c.status.ensures) (faulty_status (spelled c.args.words.now) (g.S.Shelf.contents c.args.shelf.now) c.in-Err.refusal c.in-Err.ensures.err faulty)
 
-pub returns-in-Err-clause-unbuilt_command : goal.returns-in-Err-clause-unbuilt_command
-returns-in-Err-clause-unbuilt_command g c = λ unbuilt.
-    subst (IsStatus 16) (sym c.status.ensures) (unbuilt_status (spelled c.args.words.now) (g.S.Shelf.contents c.args.shelf.now) c.in-Err.refusal c.in-Err.ensures.err unbuilt)
-
 pub returns-in-Ok-clause-lacks : goal.returns-in-Ok-clause-lacks
 returns-in-Ok-clause-lacks g c = λ name named lacks. absurd (c.in-Ok.ensures.lacks name named lacks)
 
@@ -78,13 +70,6 @@ returns-in-Ok-clause-faulty_words g c = λ faulty.
     let text = c.in-Ok.ensures.ok in
     let names = names_of_answer words (g.S.Shelf.contents c.args.shelf.now) text.0 text.1 in
     absurd (named_or_faulty words names.0 names.1 faulty)
-
-pub returns-in-Ok-clause-unbuilt_command : goal.returns-in-Ok-clause-unbuilt_command
-returns-in-Ok-clause-unbuilt_command g c = λ unbuilt.
-    let words = spelled c.args.words.now in
-    let text = c.in-Ok.ensures.ok in
-    let names = names_of_answer words (g.S.Shelf.contents c.args.shelf.now) text.0 text.1 in
-    absurd (named_or_unbuilt words names.0 names.1 unbuilt)
 
 pub returns-in-Ok-clause-told_game : goal.returns-in-Ok-clause-told_game
 returns-in-Ok-clause-told_game g c = λ bytes told shelf out.

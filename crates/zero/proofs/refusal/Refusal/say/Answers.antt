@@ -1,4 +1,4 @@
-use Rattle.std.proofs.Common.{◌++◌, codes, ap, sym, ◌∙◌, ⊎_elim}
+use Rattle.std.proofs.Common.{◌++◌, codes, ap, sym, ◌∙◌}
 use Rattle.zr_io.specs.Contents.{Bytes}
 use Rattle.zero.specs.Messages.{fault_line}
 use Rattle.zero.specs.Refusals.{line_of}
@@ -46,14 +46,6 @@ returns-in-WriteFault-clause-ok g c =
 pub returns-in-WriteFault-clause-err : goal.returns-in-WriteFault-clause-err
 returns-in-WriteFault-clause-err g c =
     err_same (g.E.Sink.written c.args.err.now) (g.E.Sink.written c.put_all-in-WriteFault.new.sink) _ _ c.put_all-in-WriteFault.result (ap line_of (sym c.in-WriteFault.is)) c.put_all-in-WriteFault.ensures.err
-
-pub returns-in-Unbuilt-clause-ok : goal.returns-in-Unbuilt-clause-ok
-returns-in-Unbuilt-clause-ok g c =
-    ok_same (g.E.Sink.written c.args.err.now) (g.E.Sink.written c.put_all-in-Unbuilt.new.sink) _ _ c.put_all-in-Unbuilt.result (⊎_elim (λ h. ap line_of (sym h)) (λ h. ap line_of (sym h)) c.in-Unbuilt.is) c.put_all-in-Unbuilt.ensures.ok
-
-pub returns-in-Unbuilt-clause-err : goal.returns-in-Unbuilt-clause-err
-returns-in-Unbuilt-clause-err g c =
-    err_same (g.E.Sink.written c.args.err.now) (g.E.Sink.written c.put_all-in-Unbuilt.new.sink) _ _ c.put_all-in-Unbuilt.result (⊎_elim (λ h. ap line_of (sym h)) (λ h. ap line_of (sym h)) c.in-Unbuilt.is) c.put_all-in-Unbuilt.ensures.err
 
 pub returns-in-Flawed-clause-ok : goal.returns-in-Flawed-clause-ok
 returns-in-Flawed-clause-ok g c =
