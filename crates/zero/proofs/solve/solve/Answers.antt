@@ -43,3 +43,8 @@ returns-clause-ok g c = λ words solve.
     } in
     if_ok c.decide.result (λ text. IsDecided source c.args.kind text.items) (λ text. IsAnswer words contents text.items)
     (λ text decided. inl (record { kind = c.args.kind; budget = c.args.budget; source = source; asked = asked; decided = decided })) c.decide.ensures.ok
+
+pub returns-in_err-reading-clause-taken : goal.returns-in_err-reading-clause-taken
+returns-in_err-reading-clause-taken g c =
+    let h = c.in_err-reading.ensures.comes.taken _ _ c.in_ok-bytes.ensures.counts in
+    search (rules, h)
