@@ -271,7 +271,7 @@ fn options_are_read(rt: HostRuntime) -> Result<(), Fail> {
     for (line, want) in [
         ("--kind=pure solve g", (0, FOUND, "")),
         (
-            "solve --budget 0 g --rounds=0 --kind pure --order 7",
+            "solve --budget 7 g --rounds=0 --kind pure --order 7",
             (0, FOUND, ""),
         ),
         ("solve --kind pure -- g", (0, FOUND, "")),
