@@ -63,10 +63,10 @@ stopped_cause words contents budget source bytes refusal asked (mixtures, profil
     })
 
 -- words whose work comes to an end name a game
-pub names_of_end : {words : Words} {contents : Contents} (last : Text) (end : End)
+pub names_of_end : (words : Words) (contents : Contents) (last : Text) (end : End)
     → IsEnded words contents last end → NamesGame words
-names_of_end Game end h = (h.asked.name, inl (h.kind, h.budget, h.asked.solve))
-names_of_end Cert end h = names_of_due h.asked.due
+names_of_end words contents Game end h = (h.asked.name, inl (h.kind, h.budget, h.asked.solve))
+names_of_end words contents Cert end h = names_of_due h.asked.due
 
 -- the end of the work on an equilibrium, of which the words ask
 pub worked_cause : (words : Words) (contents : Contents) (kind : Kind) (budget : ℕ) (source : SourceOf)

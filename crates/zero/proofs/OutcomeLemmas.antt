@@ -55,7 +55,7 @@ module _ (words : Words) (contents : Contents) (before after : Option Bytes) (ol
       → IsCause words contents result
   outcome_cause (inl (last, end, is, rep)) h =
       let ended : IsEnded words contents last end = subst (IsCause words contents) is h in
-      from_end (IsCause words contents) last end result ended tt (names_of_end last end ended) rep.refusal_is
+      from_end (IsCause words contents) last end result ended tt (names_of_end words contents last end ended) rep.refusal_is
   outcome_cause (inr (none, same, still, count)) h = subst (IsCause words contents) (sym same) h
 
   pub outcome_lacks : IsOutcome refusal result before after old new → IsStatus 3 (status_of refusal)

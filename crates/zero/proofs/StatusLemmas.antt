@@ -38,7 +38,7 @@ module _ (words : Words) (contents : Contents) where
   faulty_status (Flawed number flaw) h faulty =
       let names = names_of_due h.asked.due in absurd (named_or_faulty words names.0 names.1 faulty)
   faulty_status (Ended last end) h faulty =
-      let names = names_of_end last end h in absurd (named_or_faulty words names.0 names.1 faulty)
+      let names = names_of_end words contents last end h in absurd (named_or_faulty words names.0 names.1 faulty)
   faulty_status NoMemory h faulty = inr refl
   faulty_status WriteFault h faulty = absurd (named_or_faulty words h.0 h.1 faulty)
 
