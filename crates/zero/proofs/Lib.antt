@@ -8,3 +8,5 @@ mod GameLemmas
 mod StatusLemmas
 mod OutcomeLemmas
 mod ToldLemmas
+mod ReplyLemmas
+mod PrintedLemmas

@@ -12,9 +12,10 @@ use Rattle.zero.specs.declared.refusal.Refusal.TheVariants.{Usage, CannotRead, T
 use Rattle.zero.specs.declared.text.Text.{Text}
 use Rattle.zero.specs.declared.text.Text.TheVariants.{Game, Cert}
 use Rattle.zr_words.specs.Words.{Words}
+use Rattle.zero.specs.Messages.{end_line}
 use Rattle.zero.specs.Reads.{IsDue, IsLastTake, IsLong}
 use Rattle.zero.specs.Answers.{IsEnded, IsFaultyGame, IsRefusedCert}
-use Rattle.zero.specs.Refusals.{HasReported, HasTaken, IsCause, IsEndStatus, end_status, status_of}
+use Rattle.zero.specs.Refusals.{HasReported, HasTaken, IsCause, IsEndStatus, end_status, line_of, status_of}
 
 -- an end has one of its statuses
 pub end_range : (end : End) → IsEndStatus (end_status end)
@@ -80,11 +81,12 @@ module _ (words : Words) (contents : Contents) (before after : ℕ) where
       → HasTaken before after refusal → HasReported old new refusal → IsEndStatus (status_of refusal)
       → (last : Text) × (end : End) × (status_of refusal ≡ end_status end)
       × IsEnded words contents last end × IsLastTake last before after × Appends old (report_text end) new
+      × (line_of refusal ≡ end_line end)
   ended_of old new (Usage help) h t w e = absurd (omega (arith, e.0))
   ended_of old new (CannotRead text name) h t w e = absurd (omega (arith, e.0))
   ended_of old new (TooLong text name) h t w e = absurd (omega (arith, e.0))
   ended_of old new (Faulty fault path) h t w e = absurd (omega (arith, e.0))
   ended_of old new (Flawed number flaw) h t w e = absurd (omega (arith, e.0))
-  ended_of old new (Ended last end) h t w e = (last, end, refl, h, t, w)
+  ended_of old new (Ended last end) h t w e = (last, end, refl, h, t, w, refl)
   ended_of old new NoMemory h t w e = absurd (omega (arith, e.1))
   ended_of old new WriteFault h t w e = absurd (omega (arith, e.1))

@@ -285,7 +285,7 @@ module _ (words : Words) (contents : Contents) (purpose : Purpose) (source : Sou
       (inl (refl, (checked.accepted.cert, checked.accepted.shown)))
   told_answer text (inr (inr (inl best))) =
       same_status (for_best best.budget) best.source best.bytes best.asked 0
-      (inl (inl refl, (best.best.mixtures, best.best.profile)))
+      (inl (inl refl, (best.best.shown.mixtures, best.best.shown.profile)))
   told_answer text (inr (inr (inr migrated))) =
       absurd (no_migrate words purpose told.game_name told.cert_name migrated.name told.asks migrated.migrate)
 

@@ -25,7 +25,7 @@ use Rattle.zr_text.specs.Faults.{IsText, IsTextFault}
 use Rattle.zr_report.specs.declared.end.End.{End}
 use Rattle.zr_report.specs.Spelling.{report_text}
 use Rattle.zr_words.specs.Words.{Words}
-use Rattle.zero.specs.BestTexts.{IsBestEnd, IsBestText, IsProfileText}
+use Rattle.zero.specs.BestTexts.{IsBestEnd, IsBestReply, IsProfileText}
 use Rattle.zero.specs.Commands.{IsGameName, IsMigrate, IsSolve, Purpose, for_best, for_check}
 use Rattle.zero.specs.Games.{HasGameFault, IsGameText}
 use Rattle.zero.specs.Reads.{IsDueCert, IsRead, cert_limit, game_limit}
@@ -135,7 +135,7 @@ pub record IsBestAnswered (words : Words) (contents : Contents) (text : Bytes) :
   pub source : SourceOf
   pub bytes : Bytes
   pub asked : IsAskedCert words contents (for_best budget) source bytes
-  pub best : IsBestText (expansion source) bytes text
+  pub best : IsBestReply source bytes text
 
 -- they ask for them, and the work comes to this end
 pub record IsUnanswered (words : Words) (contents : Contents) (end : End) : Type 0 where

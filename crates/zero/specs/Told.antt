@@ -71,3 +71,13 @@ IsCertStatus purpose source bytes status =
     (IsDone purpose status × IsRightFor purpose (expansion source) bytes)
     ⊎ ((status ≡ 6) × (IsRightFor purpose (expansion source) bytes → ⊥))
     ⊎ (status ≡ 11)
+
+-- ---- a printed certificate
+
+-- the words ask for a check of these two texts, which are told: a game's and a certificate's
+pub record IsToldCheck (words : Words) (contents : Contents) (game cert : Bytes) : Type 0 where
+  pub game_name : Bytes
+  pub cert_name : Bytes
+  pub asks : IsPurpose words for_check game_name cert_name
+  pub game_told : IsTold contents game_limit game_name game
+  pub cert_told : IsTold contents cert_limit cert_name cert

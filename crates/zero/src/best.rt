@@ -1,5 +1,6 @@
 ghost use Rattle.std.specs.Prelude.{◌≡◌, ◌≢◌, ◌≤◌, ℕ, List, IfOk, IfErr, IsErrAnd, length};
 ghost use Rattle.zr_game.specs.Games.{game_of};
+ghost use Rattle.zr_game.specs.Forms.{IsGame};
 ghost use Rattle.zr_game.specs.Players.{GameOf};
 ghost use Rattle.zr_follow.specs.Expansion.{expansion};
 ghost use Rattle.zr_read.specs.Texts.{source_of};
@@ -16,7 +17,7 @@ ghost use Rattle.zr_report.specs.Spelling.{best_text};
 ghost use Rattle.zr_words.specs.Words.{Words};
 ghost use Rattle.zero.specs.declared.text.Text.TheVariants as kept;
 ghost use Rattle.zero.specs.Answers.{IsAnswer, IsAskedCert};
-ghost use Rattle.zero.specs.BestTexts.{IsBestText};
+ghost use Rattle.zero.specs.BestTexts.{IsBestReply, IsBestText};
 ghost use Rattle.zero.specs.Commands.{IsBest, for_best};
 ghost use Rattle.zero.specs.Reads.{Lacks, cert_limit};
 ghost use Rattle.zero.specs.Refusals.{ComesOf, ComesOfSearch, HasTaken, IsCause, IsStopped, Keeps, status_of};
@@ -67,7 +68,7 @@ fn answers_to<'w>(
     requires len { length bytes.now ≤ cert_limit }
     requires budget { budget ≤ 1000000000 }
     ensures ok { IfOk result (λ text.
-        IsBestText (expansion (source_of reading.now.source)) bytes.now text.items) }
+        IsBestReply (source_of reading.now.source) bytes.now text.items) }
     ensures err { (words : Words) (contents : Contents)
         → IsAskedCert words contents (for_best budget) (source_of reading.now.source) bytes.now
         → IfErr result (IsCause words contents) }
@@ -134,8 +135,8 @@ fn text_of<'w>(alloc: Global, answers: &[Answer]) -> Result<Vec<u8>, Refusal<'w>
 
 /// The refusal where a search within this budget stopped so.
 fn ended<'w>(alloc: Global, budget: u32, stop: BestStop) -> Refusal<'w>
-    ensures ends { (game : GameOf) (mixtures : List MixtureOf) (old new : PurseView)
-        → StartsAt old budget → IsBestCause game mixtures old new stop
+    ensures ends { (game : GameOf) → IsGame game
+        → (mixtures : List MixtureOf) (old new : PurseView) → StartsAt old budget → IsBestCause game mixtures old new stop
         → ComesOfSearch game mixtures budget result }
     ensures comes { ComesOf kept.Cert result }
 {

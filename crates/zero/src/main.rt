@@ -10,6 +10,7 @@ mod answer;
 mod best;
 mod check;
 mod ended;
+mod laws;
 mod migrate;
 mod pieces;
 mod reading;

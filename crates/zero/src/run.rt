@@ -13,6 +13,7 @@ ghost use Rattle.zr_report.specs.Spelling.{report_text};
 ghost use Rattle.zr_report.specs.declared.end.End.{End as EndView};
 ghost use Rattle.zero.specs.Commands.{IsGameName, Purpose};
 ghost use Rattle.zero.specs.Answers.{HasBegun, IsAnswer, IsEnded, IsFaultyGame, IsRefusedCert};
+ghost use Rattle.zero.specs.Messages.{end_line};
 ghost use Rattle.zero.specs.Reads.{IsDue, IsLastTake, IsLong, Lacks};
 ghost use Rattle.zero.specs.Refusals.{HasReported, HasTaken, IsCause, IsEndStatus, IsLine, IsReported, Keeps, end_status, status_of};
 ghost use Rattle.zero.specs.Outcomes.{IsOutcome};
@@ -79,7 +80,8 @@ pub fn zero_run<S: Shelf, O: Sink, E: Sink>(
         × (result ≡ end_status end)
         × IsEnded (spelled words.now) (S.contents shelf.old) last end
         × IsLastTake last (S.takes_of shelf.old) (S.takes_of shelf.new)
-        × Appends (O.written out.old) (report_text end) (O.written out.new) }
+        × Appends (O.written out.old) (report_text end) (O.written out.new)
+        × AppendsPrefix (E.written err.old) (end_line end) (E.written err.new) }
     ensures unwritten { result ≡ 12 → Rose (O.faults_of out.old) (O.faults_of out.new)
         × HasBegun (spelled words.now) (S.contents shelf.old)
         (O.written out.old) (O.written out.new) }

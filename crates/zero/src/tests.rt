@@ -1,9 +1,11 @@
 mod best;
 mod certificates;
 mod covers;
+mod ends;
 mod faults;
 mod followers;
 mod formats;
+mod named;
 mod places;
 
 use crate::run::zero_run;

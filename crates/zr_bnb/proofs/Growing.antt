@@ -26,6 +26,7 @@ use Rattle.zr_asked.specs.Paths.{IsOpenPath, branch, child_by}
 use Rattle.zr_branch.specs.Replies.{IsMoveForm, IsSomePlayer}
 use Rattle.zr_branch.specs.Values.{IsNotBelow, aim_value}
 use Rattle.zr_branch.proofs.Paths.{after_more, moves_more}
+use Rattle.zr_bnb.specs.declared.plan.EndProof.{EndProof}
 use Rattle.zr_bnb.specs.declared.plan.Plan.{Plan}
 use Rattle.zr_bnb.specs.declared.plan.Plan.TheVariants.{SplitAt, ChooseOf, Close}
 use Rattle.zr_bnb.specs.declared.split.Split.{Split as ASplit}
@@ -33,7 +34,7 @@ use Rattle.zr_bnb.specs.declared.split.Split.TheVariants as SplitIs
 use Rattle.zr_bnb.specs.declared.search.Best.{Best}
 use Rattle.zr_bnb.specs.Causes.{HasMoreWork, SpendsWork}
 use Rattle.zr_bnb.specs.Fates.{IsClosed, IsNoHigher}
-use Rattle.zr_bnb.specs.Found.{AreClosed, AreForms, AreNodesOf, IsBestSoFar, IsClosedPlan, IsEnd, IsGrown, IsLeastOf, IsNodeOf, IsPlanForm, Proofs, Shows, best_value, plan_of}
+use Rattle.zr_bnb.specs.Found.{AreClosed, AreForms, AreNodesOf, AreProved, IsBestSoFar, IsClosedPlan, IsEnd, IsEndProof, IsGrown, IsLeastOf, IsNodeOf, IsPlanForm, IsProvedPlan, Proofs, Shows, best_value, plan_of}
 use Rattle.zr_bnb.specs.Splits.{AreNear, IsDivision, IsNear, first_side, second_side}
 use Rattle.zr_bnb.proofs.Directions.{all_get}
 use Rattle.zr_bnb.proofs.Visiting.{at_most_not_below}
@@ -158,6 +159,11 @@ closed_more player aim best [] plan all one = (one, tt)
 closed_more player aim best (p ∷ plans) plan all one =
     (all.0, closed_more player aim best plans plan all.1 one)
 
+proved_more : (player : PlayerOf) (aim : List ℤ) (plans : List Plan) (plan : Plan)
+    → AreProved player aim plans → IsProvedPlan player aim plan → AreProved player aim (plans ++ plan ∷ [])
+proved_more player aim [] plan all one = (one, tt)
+proved_more player aim (p ∷ plans) plan all one = (all.0, proved_more player aim plans plan all.1 one)
+
 forms_more : (plans : List Plan) (plan : Plan) → AreForms plans → IsPlanForm plan
     → AreForms (plans ++ plan ∷ [])
 forms_more [] plan all one = (one, tt)
@@ -240,6 +246,7 @@ module _ (player : PlayerOf) (aim : List ℤ) where
       (spent : ℕ) : Type 0 where
     pub best_is : IsBestSoFar player aim best
     pub closed : AreClosed player aim (best_value best) plans
+    pub proved : AreProved player aim plans
     pub due : AreDue spent paths
     pub planned : IsPlanned spent plans paths
     pub covers : (x : PointOf) → IsFeasible player x
@@ -251,6 +258,7 @@ module _ (player : PlayerOf) (aim : List ℤ) where
   growing_at_start some = record {
     best_is = tt;
     closed = tt;
+    proved = tt;
     due = ((tt, (λ k d h. absurd (omega (arith, h))), root_near player some), tt);
     planned = λ wanted nodes ts none all. first wanted nodes ts none all;
     covers = λ x feasible. inl (inl (in_root player x feasible));
@@ -273,6 +281,7 @@ module _ (player : PlayerOf) (aim : List ℤ) where
   grown_at_end best plans spent few g = record {
     best_is = g.best_is;
     closed = g.closed;
+    proved = g.proved;
     tree = λ wanted nodes h. (let t = g.planned wanted nodes [] h tt in
         let u = t.3 in (t.0, t.1, t.2 ∙ append-nil nodes, omega (arith, u)));
     least = least (best_value best) g.covers;
@@ -311,7 +320,7 @@ module _ (player : PlayerOf) (aim : List ℤ) where
       → IsClosedPlan player aim old plan → IsClosedPlan player aim new plan
   better_plan old new b (SplitAt v at) h = tt
   better_plan old new b (ChooseOf p) h = tt
-  better_plan old new b (Close path) h = (h.0, b.0 (branch player path.items) h.1)
+  better_plan old new b (Close path end) h = (h.0, b.0 (branch player path.items) h.1)
 
   better_plans : (old new : Option Fraction) → IsBetter old new → (plans : List Plan)
       → AreClosed player aim old plans → AreClosed player aim new plans
@@ -338,14 +347,16 @@ module _ (player : PlayerOf) (aim : List ℤ) where
     leaf = branch player path.items
 
     -- a branch is closed
-    pub close_one : (new : Option Best) → IsBetter (best_value best) (best_value new)
+    pub close_one : (new : Option Best) (end : EndProof) → IsBetter (best_value best) (best_value new)
         → IsBestSoFar player aim new → IsClosed player aim (best_value new) leaf
-        → IsGrowing new (plans ++ Close path ∷ []) paths spent
-    close_one new better is closed = record {
+        → IsEndProof player aim leaf end
+        → IsGrowing new (plans ++ Close path end ∷ []) paths spent
+    close_one new end better is closed proof = record {
       best_is = is;
-      closed = closed_more player aim (best_value new) plans (Close path)
+      closed = closed_more player aim (best_value new) plans (Close path end)
           (better_plans (best_value best) (best_value new) better plans g.closed)
           (g.due.0.0, closed);
+      proved = proved_more player aim plans (Close path end) g.proved proof;
       due = g.due.1;
       planned = λ wanted nodes ts h all. planned_ wanted nodes ts h all;
       covers = λ x feasible. ⊎_elim (λ (h : Inside player leaf x ⊎ InSome paths x).
@@ -353,25 +364,25 @@ module _ (player : PlayerOf) (aim : List ℤ) where
           (inside_meets player some.1.1.rows some.1.1.pairs some.1.1.from_zero x feasible leaf i) closed))
           (λ (i : InSome paths x). inl i) h)
           (λ (h : IsCovered (best_value best) x). inr (better.1 x feasible h)) (g.covers x feasible);
-      forms = forms_more plans (Close path) g.forms g.due.0.1;
-      count = (let c = g.count in let l = length-append plans (Close path ∷ []) in omega (arith, c, l));
+      forms = forms_more plans (Close path end) g.forms g.due.0.1;
+      count = (let c = g.count in let l = length-append plans (Close path end ∷ []) in omega (arith, c, l));
     }
       where
         planned_ : (wanted : Option Proofs) (nodes : List NodeOf) (ts : List TreeOf)
-            → AreNodesOf player wanted (plans ++ Close path ∷ []) nodes → AllShow wanted paths ts
+            → AreNodesOf player wanted (plans ++ Close path end ∷ []) nodes → AllShow wanted paths ts
             → (t : TreeOf) × Shows player wanted (root_leaf player) t
             × (preorder t ≡ nodes ++ forest ts) × (units t ≡ spent + units_all ts)
         planned_ wanted nodes ts h all =
-            let l = nodes_last player wanted plans (Close path) nodes h in
-            let end = end_tree player wanted leaf l.1 l.4 in
-            let t = g.planned wanted l.0 (end.0 ∷ ts) l.3 (end.1, all) in
+            let l = nodes_last player wanted plans (Close path end) nodes h in
+            let one = end_tree player wanted leaf l.1 l.4 in
+            let t = g.planned wanted l.0 (one.0 ∷ ts) l.3 (one.1, all) in
             let u = t.3 in
-            let e = end.3 in (
+            let e = one.3 in (
               t.0,
               t.1,
               t.2 ∙ sym (ap (λ (ns : List NodeOf). ns ++ forest ts) l.2 ∙
                   append_assoc l.0 (l.1 ∷ []) (forest ts) ∙
-                  ap (λ (ns : List NodeOf). l.0 ++ (ns ++ forest ts)) (sym end.2)),
+                  ap (λ (ns : List NodeOf). l.0 ++ (ns ++ forest ts)) (sym one.2)),
               omega (arith, u, e),
             )
 
@@ -398,6 +409,10 @@ module _ (player : PlayerOf) (aim : List ℤ) where
         let up : at ≤ℤ pos 4611686018427387903 = omega (arith, ints, few, u) in
         ((low, up), (low, up), (low, up))
     forms_of (SplitIs.Pair p) few is = (tt, tt, tt)
+
+    split_proved : (split : ASplit) → IsProvedPlan player aim (plan_of split)
+    split_proved (SplitIs.Var v at) = tt
+    split_proved (SplitIs.Pair p) = tt
 
     split_closed : (split : ASplit) → IsClosedPlan player aim (best_value best) (plan_of split)
     split_closed (SplitIs.Var v at) = tt
@@ -456,6 +471,7 @@ module _ (player : PlayerOf) (aim : List ℤ) where
       best_is = g.best_is;
       closed = closed_more player aim (best_value best) plans (plan_of split) g.closed
           (split_closed split);
+      proved = proved_more player aim plans (plan_of split) g.proved (split_proved split);
       due = (
         (
           first_move split point is,
@@ -521,7 +537,7 @@ module _ (player : PlayerOf) (aim : List ℤ) where
   abbrev loose_node : Plan → NodeOf
   loose_node (SplitAt v at) = SplitNode v at
   loose_node (ChooseOf p) = ChooseNode p
-  loose_node (Close path) = LooseNode
+  loose_node (Close path end) = LooseNode
 
   abbrev loose_nodes : List Plan → List NodeOf
   loose_nodes [] = []
@@ -530,7 +546,7 @@ module _ (player : PlayerOf) (aim : List ℤ) where
   loose_is : (plan : Plan) → IsNodeOf player None plan (loose_node plan)
   loose_is (SplitAt v at) = refl
   loose_is (ChooseOf p) = refl
-  loose_is (Close path) = tt
+  loose_is (Close path end) = tt
 
   loose_are : (plans : List Plan) → AreNodesOf player None plans (loose_nodes plans)
   loose_are [] = tt

@@ -80,6 +80,16 @@ numbers_scaled k [] j = omega (arith, ints)
 numbers_scaled k (x ∷ xs) zero = refl
 numbers_scaled k (x ∷ xs) (suc j) = numbers_scaled k xs j
 
+scaled_by_one : (xs : List ℤ) → map (λ z. pos 1 *ℤ z) xs ≡ xs
+scaled_by_one [] = refl
+scaled_by_one (x ∷ xs) =
+    let o : pos 1 *ℤ x ≡ x = omega (arith, ints) in
+    ap (λ (y : ℤ). y ∷ map (λ z. pos 1 *ℤ z) xs) o ∙ ap (λ (ys : List ℤ). x ∷ ys) (scaled_by_one xs)
+
+-- a least value that is whole leaves the aim as it is
+pub scaled_whole : (aim : List ℤ) (f : Fraction) → f.den ≡ pos 1 → scaled_aim f aim ≡ aim
+scaled_whole aim f e = ap (λ (k : ℤ). map (λ z. k *ℤ z) aim) e ∙ scaled_by_one aim
+
 pub row_same : (aim : List ℤ) (f : Fraction) → end_row (scaled_aim f aim) f.num ≡ least_row aim f
 row_same aim f = λ i. record { coef = λ j. neg_ℤ (numbers_scaled f.den aim j i); le = neg_ℤ f.num }
 
@@ -105,7 +115,7 @@ module _ (player : PlayerOf) (aim : List ℤ) (f : Fraction) where
       → IsClosedPlan player (scaled_aim f aim) (Some (whole f.num)) plan
   plan_scaled (SplitAt v at) h = tt
   plan_scaled (ChooseOf p) h = tt
-  plan_scaled (Close path) h = (h.0, closed_scaled (branch player path.items) h.1)
+  plan_scaled (Close path end) h = (h.0, closed_scaled (branch player path.items) h.1)
 
   pub plans_scaled : (plans : List Plan) → AreClosed player aim (Some f) plans
       → AreClosed player (scaled_aim f aim) (Some (whole f.num)) plans

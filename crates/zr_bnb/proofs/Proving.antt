@@ -1,10 +1,11 @@
 -- The ends of a tree, and the tree of its nodes.
-use Rattle.std.proofs.Common.{◌≡◌, ℕ, zero, suc, ◌+◌, ◌<◌, arith, refl, sym, ap, ◌∙◌, subst, ℤ, pos, neg_ℤ, ◌*ℤ◌, ◌<ℤ◌, ◌≤ℤ◌, true, Option, Some, None, option_map, List, [], ◌∷◌, ◌++◌, length, get_or, append_assoc, inl, inr}
+use Rattle.std.proofs.Common.{rules, ◌≡◌, ℕ, zero, suc, ◌+◌, ◌<◌, arith, refl, sym, ap, ◌∙◌, subst, ℤ, pos, neg_ℤ, ◌*ℤ◌, ◌<ℤ◌, ◌≤ℤ◌, true, Option, Some, None, option_map, List, [], ◌∷◌, ◌++◌, length, get_or, append_assoc, inl, inr}
 use Rattle.std.proofs.lemmas.Int.{ints}
 use Rattle.std.proofs.lemmas.List.{append-nil}
 use Rattle.std.proofs.Math.IntN.{*ℤ_comm}
 use Rattle.zr_base.specs.Fractions.{Fraction, whole}
 use Rattle.zr_base.specs.Points.{PointOf, num_of}
+use Rattle.zr_base.specs.Steps.{IsNarrow}
 use Rattle.zr_base.proofs.Ring.{mul_assoc, neg-mul_left, neg-mul_right}
 use Rattle.zr_base.proofs.Worth.{le_times, le_of_times}
 use Rattle.zr_game.specs.Players.{PlayerOf}
@@ -17,9 +18,10 @@ use Rattle.zr_tree.specs.Right.{right_of}
 use Rattle.zr_tree.proofs.Combinations.{positive_if}
 use Rattle.zr_branch.specs.Replies.{IsBestAt, ProvesEmpty}
 use Rattle.zr_branch.specs.Values.{aim_value}
+use Rattle.zr_bnb.specs.declared.plan.EndProof.{EndProof}
 use Rattle.zr_bnb.specs.declared.plan.Plan.{Plan}
 use Rattle.zr_bnb.specs.Fates.{IsClosed}
-use Rattle.zr_bnb.specs.Found.{AreClosed, AreForms, AreNodesOf, IsClosedPlan, IsEnd, IsNodeOf, IsPlanForm, Proofs, proofs_for}
+use Rattle.zr_bnb.specs.Found.{AreClosed, AreForms, AreNodesOf, AreProved, IsClosedPlan, IsEnd, IsEndProof, IsNodeOf, IsPlanForm, IsProvedPlan, Proofs, proofs_for}
 
 -- a whole number that is no more than a value over the point
 at_least : (n vn vd xd a : ℤ) → (pos 0) <ℤ xd → vn *ℤ xd ≡ vd *ℤ a → (pos 0) <ℤ vd → (n *ℤ xd) ≤ℤ (pos 1 *ℤ a) → (n *ℤ vd) ≤ℤ vn
@@ -67,6 +69,20 @@ module _ (player : PlayerOf) (aim : List ℤ) (leaf : LeafOf) where
   empty_end (Some n) mult e =
       ((e.multipliers.present, positive_if 0 mult e.multipliers.form, inr e.refuting), e.drawn)
 
+  pub best_proof : (x : PointOf) (value : Fraction) (end : EndProof)
+      → IsBestAt player leaf aim x value end.scale end.mult.items → IsEndProof player aim leaf end
+  best_proof x value end b =
+      let s = b.proof.positive in (
+        (omega (arith, ints, s), b.proof.narrow, b.proof.multipliers.form),
+        λ least closed. best_end least x value end.scale end.mult.items b closed,
+      )
+
+  pub empty_proof : (end : EndProof) → end.scale ≡ pos 0 → ProvesEmpty player leaf aim end.mult.items
+      → IsEndProof player aim leaf end
+  empty_proof end e p =
+      let narrow : IsNarrow (pos 0) = search rules in
+      rw e ((omega (arith, ints), narrow, p.multipliers.form), λ least closed. empty_end least end.mult.items p)
+
 pub whole_above : (least : Option ℤ) (f : Fraction) → option_map whole least ≡ Some f → (pos 0) <ℤ f.den
 whole_above None f e = absurd cc
 whole_above (Some n) f e = let h : whole n ≡ f = cc in subst (λ (g : Fraction). (pos 0) <ℤ g.den) h (omega (arith, ints))
@@ -107,6 +123,12 @@ closed_at player aim best [] i d h all = absurd (omega (arith, h))
 closed_at player aim best (p ∷ plans) zero d h all = all.0
 closed_at player aim best (p ∷ plans) (suc i) d h all =
     closed_at player aim best plans i d (omega (arith, h)) all.1
+
+pub proved_at : (player : PlayerOf) (aim : List ℤ) (plans : List Plan) (i : ℕ) (d : Plan) → i < length plans → AreProved player aim plans → IsProvedPlan player aim (get_or plans i d)
+proved_at player aim [] i d h all = absurd (omega (arith, h))
+proved_at player aim (p ∷ plans) zero d h all = all.0
+proved_at player aim (p ∷ plans) (suc i) d h all =
+    proved_at player aim plans i d (omega (arith, h)) all.1
 
 pub form_at : (plans : List Plan) (i : ℕ) (d : Plan) → i < length plans → AreForms plans → IsPlanForm (get_or plans i d)
 form_at [] i d h all = absurd (omega (arith, h))

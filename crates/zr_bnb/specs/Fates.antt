@@ -52,8 +52,8 @@ pub record IsFall (player : PlayerOf) (leaf : LeafOf) (aim : List ℤ) (base : P
 -- the leaf is closed; or a feasible point closes it with its value; or it has a point and is to be
 -- split; or the aim falls along a ray
 abbrev pub IsFate : PlayerOf → LeafOf → List ℤ → Option Fraction → ℕ → Fate → Type 0
-IsFate player leaf aim best more AFate.Closed = IsClosed player aim best leaf
-IsFate player leaf aim best more (AFate.Improved x value) =
+IsFate player leaf aim best more (AFate.Closed end) = IsClosed player aim best leaf
+IsFate player leaf aim best more (AFate.Improved x value end) =
     IsImprovement player leaf aim best x value
 IsFate player leaf aim best more (AFate.Divided split least_open) =
     HasPoint player leaf × IsDivision player leaf more split

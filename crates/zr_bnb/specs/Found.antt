@@ -2,7 +2,7 @@
 use Rattle.std.specs.Prelude.{◌≡◌, ℕ, ◌+◌, ◌<◌, ◌^◌, ℤ, neg_ℤ, ◌≤ℤ◌, Option, Some, None, option_map, Vec, List, [], ◌∷◌, length}
 use Rattle.std.specs.List.{All}
 use Rattle.std.specs.declared.alloc.Global.{Global}
-use Rattle.zr_base.specs.Fractions.{Fraction}
+use Rattle.zr_base.specs.Fractions.{Fraction, whole}
 use Rattle.zr_base.specs.Lowest.{IsLowest}
 use Rattle.zr_base.specs.Points.{PointOf}
 use Rattle.zr_io.specs.declared.purse.Purse.{Purse}
@@ -12,7 +12,7 @@ use Rattle.zr_game.specs.Leaves.{Bound, HasPoint, IsOpenPair, LeafOf, above, bel
 use Rattle.zr_game.specs.declared.leaf.Side.TheVariants.{VarZero, RowZero}
 use Rattle.zr_simplex.specs.Programs.{numbers}
 use Rattle.zr_tree.specs.declared.tree.Tree.{Tree}
-use Rattle.zr_tree.specs.Form.{greatest_split, least_split}
+use Rattle.zr_tree.specs.Form.{IsNodeForm, greatest_split, least_split}
 use Rattle.zr_tree.specs.Listed.{IsTreeOf}
 use Rattle.zr_tree.specs.Nodes.{Multipliers, NodeOf, SplitNode, ChooseNode, ProofNode, KnownNode, LooseNode}
 use Rattle.zr_tree.specs.Trees.{TreeOf, Split, Choose, Proof, Known, Loose, preorder}
@@ -23,11 +23,14 @@ use Rattle.zr_asked.specs.OpenTrees.{units}
 use Rattle.zr_asked.specs.Paths.{IsOpenPath, IsSplit, branch}
 use Rattle.zr_branch.specs.Replies.{IsMoveForm}
 use Rattle.zr_branch.specs.Values.{IsNotBelow, IsValue}
+use Rattle.zr_bnb.specs.declared.plan.EndProof.{EndProof}
 use Rattle.zr_bnb.specs.declared.plan.Plan.{Plan}
 use Rattle.zr_bnb.specs.declared.plan.Plan.TheVariants.{SplitAt, ChooseOf, Close}
 use Rattle.zr_bnb.specs.declared.split.Split.{Split as ASplit}
 use Rattle.zr_bnb.specs.declared.split.Split.TheVariants as SplitIs
 use Rattle.zr_bnb.specs.declared.search.Best.{Best}
+use Rattle.zr_bnb.specs.declared.visit.Fate.{Fate}
+use Rattle.zr_bnb.specs.declared.visit.Fate.TheVariants as AFate
 use Rattle.zr_bnb.specs.declared.search.Found.{Found}
 use Rattle.zr_bnb.specs.declared.search.Found.TheVariants as AFound
 use Rattle.zr_bnb.specs.Answers.{MayAsk}
@@ -93,11 +96,26 @@ end_row aim n = record { coef = λ j. neg_ℤ (numbers aim j); le = neg_ℤ n }
 abbrev pub proofs_for : List ℤ → Option ℤ → Option Proofs
 proofs_for aim least = Some (record { row = option_map (end_row aim) least; aim = aim })
 
+-- the multipliers prove what the aim is at least on the leaf, whatever that may be, or where it has
+-- no point that there is none
+abbrev pub IsEndProof : PlayerOf → List ℤ → LeafOf → EndProof → Type 0
+IsEndProof player aim leaf end =
+    IsNodeForm (ProofNode end.scale end.mult.items)
+    × ((least : Option ℤ) → IsClosed player aim (option_map whole least) leaf
+    → IsEnd player (proofs_for aim least) leaf (ProofNode end.scale end.mult.items))
+
+-- where a branch is closed, what was kept proves its end
+abbrev pub ProvesEnd : PlayerOf → LeafOf → List ℤ → Fate → Type 0
+ProvesEnd player leaf aim (AFate.Closed end) = IsEndProof player aim leaf end
+ProvesEnd player leaf aim (AFate.Improved x value end) = IsEndProof player aim leaf end
+ProvesEnd player leaf aim (AFate.Divided split least_open) = Unit {0}
+ProvesEnd player leaf aim (AFate.Below base dir) = Unit {0}
+
 -- the node is that of the plan, and where the plan closes a branch it is an end there
 abbrev pub IsNodeOf : PlayerOf → Option Proofs → Plan → NodeOf → Type 0
 IsNodeOf player wanted (SplitAt v at) node = node ≡ SplitNode v at
 IsNodeOf player wanted (ChooseOf p) node = node ≡ ChooseNode p
-IsNodeOf player wanted (Close path) node = IsEnd player wanted (branch player path.items) node
+IsNodeOf player wanted (Close path end) node = IsEnd player wanted (branch player path.items) node
 
 abbrev pub AreNodesOf : PlayerOf → Option Proofs → List Plan → List NodeOf → Type 0
 AreNodesOf player wanted [] [] = Unit {0}
@@ -110,14 +128,20 @@ AreNodesOf player wanted (plan ∷ plans) [] = ⊥
 abbrev pub IsPlanForm : Plan → Type 0
 IsPlanForm (SplitAt v at) = (least_split ≤ℤ at) × (at ≤ℤ greatest_split)
 IsPlanForm (ChooseOf p) = Unit {0}
-IsPlanForm (Close path) = All IsMoveForm path.items
+IsPlanForm (Close path end) = All IsMoveForm path.items
 
 -- the branch that the plan closes is one, and is closed by the value
 abbrev pub IsClosedPlan : PlayerOf → List ℤ → Option Fraction → Plan → Type 0
 IsClosedPlan player aim best (SplitAt v at) = Unit {0}
 IsClosedPlan player aim best (ChooseOf p) = Unit {0}
-IsClosedPlan player aim best (Close path) =
+IsClosedPlan player aim best (Close path end) =
     IsOpenPath player path.items × IsClosed player aim best (branch player path.items)
+
+-- what the plan keeps of a branch that is closed proves its end
+abbrev pub IsProvedPlan : PlayerOf → List ℤ → Plan → Type 0
+IsProvedPlan player aim (SplitAt v at) = Unit {0}
+IsProvedPlan player aim (ChooseOf p) = Unit {0}
+IsProvedPlan player aim (Close path end) = IsEndProof player aim (branch player path.items) end
 
 -- such facts of all plans
 abbrev pub AreForms : List Plan → Type 0
@@ -128,6 +152,10 @@ abbrev pub AreClosed : PlayerOf → List ℤ → Option Fraction → List Plan �
 AreClosed player aim best [] = Unit {0}
 AreClosed player aim best (plan ∷ plans) =
     IsClosedPlan player aim best plan × AreClosed player aim best plans
+
+abbrev pub AreProved : PlayerOf → List ℤ → List Plan → Type 0
+AreProved player aim [] = Unit {0}
+AreProved player aim (plan ∷ plans) = IsProvedPlan player aim plan × AreProved player aim plans
 
 -- the plans are those of a tree with so many inner nodes: with an end for each branch that is
 -- closed, their nodes are one such tree
@@ -166,6 +194,7 @@ pub record IsGrown (player : PlayerOf) (aim : List ℤ) (spent : ℕ) (best : Op
     (plans : List Plan) : Type 0 where
   pub best_is : IsBestSoFar player aim best
   pub closed : AreClosed player aim (best_value best) plans
+  pub proved : AreProved player aim plans
   pub tree : IsPlanOfTree player spent plans
   pub least : IsLeastOf player aim (best_value best)
   pub forms : AreForms plans

@@ -1,4 +1,4 @@
-ghost use Rattle.std.specs.Prelude.{◌≡◌, ℕ, ◌+◌, ◌<◌, ◌≤◌, ◌*ℤ◌, IfOk, IfErr, length, map, option_map, None, Some};
+ghost use Rattle.std.specs.Prelude.{◌≡◌, ℕ, ◌+◌, ◌<◌, ◌≤◌, ◌*ℤ◌, IfOk, IfErr, length, map, option_map, None, Some, pos, true};
 ghost use Rattle.std.specs.List.{All};
 ghost use Rattle.zr_base.specs.Steps.{IsNarrow};
 ghost use Rattle.zr_io.specs.declared.purse.Purse.{Purse as APurse};
@@ -16,7 +16,7 @@ use crate::plan::Plan;
 use crate::prove::prove;
 use crate::search::{Best, Found, search};
 use std::alloc::Global;
-use zr_base::{Wide, cross};
+use zr_base::{Frac, Wide, cross};
 use zr_game::{Game, Player};
 use zr_io::Purse;
 
@@ -140,10 +140,17 @@ fn empty(
         → IfErr result (IsBnbCause i (player_of player.now) aim.now old new) }
     ensures purse { CountsPivotsAlone purse.old purse.new }
 {
-    match prove(alloc, game, i, player, plans, aim, None, purse) {
+    match prove(alloc, game, i, player, plans, true, aim, None, purse) {
         Err(stop) => Err(stop),
         Ok(tree) => Ok(LeastAnswer::Empty { tree }),
     }
+}
+
+/// Whether a value is whole.
+fn is_whole(value: Frac) -> bool
+    ensures { result ≡ true → value.den ≡ pos 1 }
+{
+    value.den() == 1
 }
 
 /// The answer with a best point and the tree of the plans.
@@ -183,6 +190,7 @@ fn at(
         i,
         player,
         plans,
+        is_whole(value),
         &scaled,
         Some(value.num()),
         purse,

@@ -12,7 +12,7 @@ ghost use Rattle.zr_bnb.specs.Splits.{first_side, second_side};
 
 use crate::answer::BnbStop;
 use crate::endless::are_bounded;
-use crate::plan::Plan;
+use crate::plan::{EndProof, Plan};
 use crate::split::Split;
 use crate::visit::{Fate, visit};
 use std::alloc::{AllocError, Global};
@@ -71,10 +71,10 @@ fn put_next(due: &mut Vec<Vec<Move>>, path: Vec<Move>) -> Result<(), AllocError>
 }
 
 /// Notes that a branch is closed.
-fn close(plans: &mut Vec<Plan>, path: Vec<Move>) -> Result<(), AllocError>
-    ensures { OnOk result (plans.new.items ≡ plans.old.items ++ Plan.Close path ∷ []) }
+fn close(plans: &mut Vec<Plan>, path: Vec<Move>, end: EndProof) -> Result<(), AllocError>
+    ensures { OnOk result (plans.new.items ≡ plans.old.items ++ Plan.Close path end ∷ []) }
 {
-    plans.push(Plan::Close { path })?;
+    plans.push(Plan::Close { path, end })?;
     Ok(())
 }
 
@@ -209,14 +209,14 @@ pub(crate) fn search(
     'branches: while let Some(path) = take_next(&mut due) {
         match visit(alloc, game, i, player, &path, aim, value_of(&best), purse) {
             Err(stop) => return Err(stop),
-            Ok(Fate::Closed) => {
-                let Ok(()) = close(&mut plans, path) else {
+            Ok(Fate::Closed { end }) => {
+                let Ok(()) = close(&mut plans, path, end) else {
                     return Err(BnbStop::NoMemory);
                 };
             }
-            Ok(Fate::Improved { point, value }) => {
+            Ok(Fate::Improved { point, value, end }) => {
                 best = Some(Best { point, value });
-                let Ok(()) = close(&mut plans, path) else {
+                let Ok(()) = close(&mut plans, path, end) else {
                     return Err(BnbStop::NoMemory);
                 };
             }

@@ -7,16 +7,18 @@ ghost use Rattle.zr_game.specs.Players.{PlayerOf, player_of};
 ghost use Rattle.zr_game.specs.Feasible.{IsFeasible};
 ghost use Rattle.zr_game.specs.Games.{game_of};
 ghost use Rattle.zr_game.specs.Forms.{IsPlayer};
-ghost use Rattle.zr_game.specs.Leaves.{IsLeafOf, MeetsLeaf, leaf_of};
+ghost use Rattle.zr_game.specs.Leaves.{IsLeafOf, LeafOf, MeetsLeaf, leaf_of};
 ghost use Rattle.zr_tree.specs.Nodes.{Multipliers};
 ghost use Rattle.zr_tree.proofs.SettledLeaves.{KeepsRoot};
 ghost use Rattle.zr_asked.specs.Paths.{IsOpenPath, branch};
 ghost use Rattle.zr_branch.specs.Replies.{CountsPivotsAlone, IsBestAt, IsMoveForm, IsSomePlayer, IsUnboundedAt};
 ghost use Rattle.zr_bnb.specs.Causes.{IsBnbCause, IsLeastOpen};
 ghost use Rattle.zr_bnb.specs.Fates.{HasAtMost, IsFate, IsNoHigher, LeavesOpen};
+ghost use Rattle.zr_bnb.specs.Found.{IsEndProof, ProvesEnd};
 ghost use Rattle.zr_bnb.specs.Splits.{AreNear};
 
 use crate::answer::BnbStop;
+use crate::plan::EndProof;
 use crate::split::{Split, where_to_split};
 use crate::stop::stop_of;
 use std::alloc::Global;
@@ -31,14 +33,26 @@ use zr_io::Purse;
 #[derive(Drop)]
 pub(crate) enum Fate {
     /// No point of it is better than the best one so far.
-    Closed,
+    Closed {
+        end: EndProof,
+    },
     /// None is better than this feasible point, which is better than the best one so far.
-    Improved { point: Point, value: Frac },
+    Improved {
+        point: Point,
+        value: Frac,
+        end: EndProof,
+    },
     /// It has a point, and is split. Where it is the branch of all points, and `least_open`, the
     /// aim has no least value on the relaxation, or has it at a point that isn't feasible.
-    Divided { split: Split, least_open: bool },
+    Divided {
+        split: Split,
+        least_open: bool,
+    },
     /// From this feasible point on the aim falls without end.
-    Below { base: Point, dir: Vec<i128> },
+    Below {
+        base: Point,
+        dir: Vec<i128>,
+    },
 }
 
 /// What a test of a point tells.
@@ -92,6 +106,8 @@ pub(crate) fn visit(
         aim.now best more) }
     ensures opens { IfOk result (LeavesOpen (player_of player.now)
         (branch (player_of player.now) path.now) aim.now) }
+    ensures ends { IfOk result (ProvesEnd (player_of player.now)
+        (branch (player_of player.now) path.now) aim.now) }
     ensures cause { (old new : APurse)
         → IfErr result (IsBnbCause i (player_of player.now) aim.now old new) }
     ensures purse { CountsPivotsAlone purse.old purse.new }
@@ -101,26 +117,37 @@ pub(crate) fn visit(
     };
     match ask(alloc, i, player, path, &leaf, aim, purse) {
         Err(stop) => Err(stop_of(stop)),
-        Ok(Reply::Empty { mult: _ }) => Ok(Fate::Closed),
+        Ok(Reply::Empty { mult }) => Ok(Fate::Closed {
+            end: EndProof { scale: 0, mult },
+        }),
         Ok(
             Reply::Best {
                 point,
                 value,
-                scale: _,
-                mult: _,
+                scale,
+                mult,
             },
         ) => {
+            let end = EndProof { scale, mult };
             if has_at_most(best, value) {
-                return Ok(Fate::Closed);
+                return Ok(Fate::Closed { end });
             }
-            Ok(at_point(game, i, player, &leaf, point, value))
+            Ok(at_point(game, i, player, &leaf, point, value, end))
         }
         Ok(Reply::Unbounded { point, ray }) => Ok(along(player, &leaf, point, ray)),
     }
 }
 
 /// What becomes of a leaf that has its least value at the point.
-fn at_point(game: &Game, i: u32, player: &Player, leaf: &Leaf, point: Point, value: Frac) -> Fate
+fn at_point(
+    game: &Game,
+    i: u32,
+    player: &Player,
+    leaf: &Leaf,
+    point: Point,
+    value: Frac,
+    end: EndProof,
+) -> Fate
     requires number { i < length (game_of game.now) }
     requires player { IsPlayer (game_of game.now) i (player_of player.now) }
     requires some { IsSomePlayer i (player_of player.now) }
@@ -135,17 +162,26 @@ fn at_point(game: &Game, i: u32, player: &Player, leaf: &Leaf, point: Point, val
     ensures opens { (aim : List ℤ) (scale : ℤ) (mult : Multipliers)
         → IsBestAt (player_of player.now) (leaf_of leaf.now) aim point value scale mult
         → LeavesOpen (player_of player.now) (leaf_of leaf.now) aim result }
+    ensures ends { (aim : List ℤ) → IsEndProof (player_of player.now) aim (leaf_of leaf.now) end
+        → ProvesEnd (player_of player.now) (leaf_of leaf.now) aim result }
 {
     match tested(game, i, &point) {
-        Test::Feasible => Fate::Improved { point, value },
-        Test::Infeasible => at_other(player, leaf, point, value, true),
-        Test::TooWide => at_other(player, leaf, point, value, false),
+        Test::Feasible => Fate::Improved { point, value, end },
+        Test::Infeasible => at_other(player, leaf, point, value, end, true),
+        Test::TooWide => at_other(player, leaf, point, value, end, false),
     }
 }
 
 /// The same, where the point isn't known to be feasible, and `infeasible` where it is known not to
 /// be.
-fn at_other(player: &Player, leaf: &Leaf, point: Point, value: Frac, infeasible: bool) -> Fate
+fn at_other(
+    player: &Player,
+    leaf: &Leaf,
+    point: Point,
+    value: Frac,
+    end: EndProof,
+    infeasible: bool,
+) -> Fate
     requires some { (i : ℕ) × IsSomePlayer i (player_of player.now) }
     requires lengths { IsLeafOf (player_of player.now) leaf.now }
     requires keeps { KeepsRoot (player_of player.now) (leaf_of leaf.now) }
@@ -159,9 +195,11 @@ fn at_other(player: &Player, leaf: &Leaf, point: Point, value: Frac, infeasible:
     ensures opens { (aim : List ℤ) (scale : ℤ) (mult : Multipliers)
         → IsBestAt (player_of player.now) (leaf_of leaf.now) aim point value scale mult
         → LeavesOpen (player_of player.now) (leaf_of leaf.now) aim result }
+    ensures ends { (aim : List ℤ) → IsEndProof (player_of player.now) aim (leaf_of leaf.now) end
+        → ProvesEnd (player_of player.now) (leaf_of leaf.now) aim result }
 {
     match where_to_split(player, leaf, &point, &[]) {
-        None => Fate::Improved { point, value },
+        None => Fate::Improved { point, value, end },
         Some(split) => Fate::Divided {
             split,
             least_open: infeasible,
@@ -183,6 +221,8 @@ fn along(player: &Player, leaf: &Leaf, point: Point, ray: Vec<i128>) -> Fate
     ensures opens { (aim : List ℤ)
         → IsUnboundedAt (player_of player.now) (leaf_of leaf.now) aim point ray.items
         → LeavesOpen (player_of player.now) (leaf_of leaf.now) aim result }
+    ensures ends { (leaf : LeafOf) (aim : List ℤ)
+        → ProvesEnd (player_of player.now) leaf aim result }
 {
     match where_to_split(player, leaf, &point, &ray) {
         None => Fate::Below {

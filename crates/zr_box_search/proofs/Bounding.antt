@@ -1,5 +1,5 @@
 -- Sizes of sums and products, and of all that a gain is made of.
-use Rattle.std.proofs.Common.{◌≡◌, ℕ, zero, suc, ◌+◌, ◌-◌, ◌*◌, ◌<◌, ◌≤◌, ◌==◌, ◌++◌, ⊎_elim, arith, refl, sym, ap, ◌∙◌, subst, ℤ, pos, negsuc, neg_ℤ, ◌+ℤ◌, ◌-ℤ◌, ◌*ℤ◌, ◌≤ℤ◌, ◌<ℤ◌, int_div, unsigned_abs, Bool, true, false, cond, All, List, [], ◌∷◌, length, get_or, map, take, add-one, Option, Some, None}
+use Rattle.std.proofs.Common.{◌≡◌, ℕ, suc, ◌+◌, ◌-◌, ◌*◌, ◌<◌, ◌≤◌, ◌==◌, ◌++◌, ⊎_elim, arith, sym, ap, ◌∙◌, subst, ℤ, pos, negsuc, ◌+ℤ◌, ◌-ℤ◌, ◌*ℤ◌, ◌<ℤ◌, int_div, unsigned_abs, Bool, true, false, cond, List, [], ◌∷◌, length, get_or, map, take, add-one, Option}
 use Rattle.std.specs.Option.{unwrap_or}
 use Rattle.std.proofs.lemmas.Int.{ints, unsigned_abs-mul}
 use Rattle.std.proofs.Math.Nat.{div-le_self}
@@ -14,7 +14,7 @@ use Rattle.zr_game.specs.Players.{GameOf, PlayerOf}
 use Rattle.zr_game.specs.Forms.{IsCoefficient, IsCrossForm, IsGame, IsNumber, IsPlayer}
 use Rattle.zr_game.proofs.Items.{at_number}
 use Rattle.zr_boxes.specs.Boxes.{BoxOf}
-use Rattle.zr_boxes.specs.Ranges.{lesser_of, range_of}
+use Rattle.zr_boxes.specs.Ranges.{lesser_of}
 use Rattle.zr_box_search.specs.Dues.{AreRanged, IsRanged}
 use Rattle.zr_box_search.specs.Sizes.{HasNearRange, IsNearPlayer, IsNearTerm, IsUpTo, number_size, slope_size}
 

@@ -1,12 +1,10 @@
 -- What closes a box.
-use Rattle.std.proofs.Common.{◌≡◌, ℕ, zero, suc, ◌+◌, ◌^◌, ◌<◌, ◌≤◌, arith, refl, sym, ap, ◌∙◌, subst, ℤ, pos, ◌<ℤ◌, ◌≤ℤ◌, IsSome, Option, Some, None, option_and_then, List, [], ◌∷◌, map, length, slice_get, inl, inr}
-use Rattle.std.proofs.lemmas.Int.{ints}
+use Rattle.std.proofs.Common.{◌≡◌, ℕ, ◌+◌, ◌^◌, ◌<◌, ◌≤◌, arith, refl, sym, subst, ℤ, pos, ◌≤ℤ◌, IsSome, Option, Some, None, option_and_then, List, [], ◌∷◌, length, slice_get}
 use Rattle.std.proofs.lemmas.Option.{slice_get_within}
-use Rattle.zr_base.specs.Points.{PointOf}
 use Rattle.zr_base.specs.Steps.{IsNarrow}
 use Rattle.zr_base.specs.Terms.{AscendWith}
 use Rattle.zr_game.specs.Players.{GameOf, PlayerOf}
-use Rattle.zr_game.specs.Forms.{IsPlayer, IsPlayerForm}
+use Rattle.zr_game.specs.Forms.{IsPlayer}
 use Rattle.zr_game.specs.Leaves.{Bound, LeafOf, slot_of, slots}
 use Rattle.zr_tree.specs.Form.{AreMultipliers}
 use Rattle.zr_tree.specs.Nodes.{Multipliers}

@@ -1,10 +1,9 @@
 -- What becomes of a box, after pivots that are counted alone.
-use Rattle.std.proofs.Common.{◌≡◌, ℕ, ◌+◌, ◌<◌, ◌≤◌, arith, refl, sym, ap, ◌∙◌, subst, inl}
+use Rattle.std.proofs.Common.{ℕ, arith, refl, sym, ◌∙◌, subst, inl}
 use Rattle.zr_io.specs.declared.purse.Purse.{Purse}
-use Rattle.zr_io.specs.Purses.{counted}
 use Rattle.zr_game.specs.Players.{GameOf, PlayerOf}
 use Rattle.zr_game.specs.Forms.{IsPlayer}
-use Rattle.zr_game.specs.Leaves.{LeafOf, root_leaf}
+use Rattle.zr_game.specs.Leaves.{root_leaf}
 use Rattle.zr_tree.proofs.SettledLeaves.{KeepsRoot, root_keeps}
 use Rattle.zr_asked.proofs.PresentRows.{path_keeps}
 use Rattle.zr_branch.specs.Replies.{CountsPivotsAlone}

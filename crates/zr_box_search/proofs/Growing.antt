@@ -1,6 +1,6 @@
 -- What a search keeps from box to box.
-use Rattle.std.proofs.Common.{◌≡◌, ◌≢◌, ℕ, zero, suc, ◌+◌, ◌*◌, ◌<◌, ◌≤◌, ◌==◌, arith, refl, sym, ap, ◌∙◌, subst, ℤ, pos, negsuc, ◌+ℤ◌, ◌<ℤ◌, ◌≤ℤ◌, int_le, Bool, true, false, cond, Option, Some, None, Vec, List, [], ◌∷◌, ◌++◌, map, length, length-append, append_assoc, All, IsSome, inl, inr, ◌⊎◌, ⊎_elim, slice_get, option_and_then}
-use Rattle.std.specs.Option.{ForSome, option_map_or}
+use Rattle.std.proofs.Common.{◌≡◌, ◌≢◌, ℕ, ◌+◌, ◌*◌, ◌<◌, ◌≤◌, ◌==◌, arith, refl, sym, ap, ◌∙◌, subst, ℤ, pos, ◌+ℤ◌, ◌<ℤ◌, ◌≤ℤ◌, int_le, Bool, true, false, cond, Option, Some, None, List, [], ◌∷◌, ◌++◌, length, length-append, append_assoc, All, IsSome, inl, slice_get, option_and_then}
+use Rattle.std.specs.Option.{option_map_or}
 use Rattle.std.proofs.lemmas.Bool.Decides.{nat_tests}
 use Rattle.std.proofs.lemmas.Int.{ints}
 use Rattle.std.proofs.lemmas.List.{append-nil}
@@ -8,7 +8,7 @@ use Rattle.std.proofs.lemmas.Option.{slice_get_within}
 use Rattle.std.proofs.lemmas.List.Elements.{All-push}
 use Rattle.zr_io.specs.declared.purse.Purse.{Purse}
 use Rattle.zr_game.specs.Players.{GameOf, PlayerOf, VarOf}
-use Rattle.zr_game.specs.Forms.{IsGame, IsNumber, IsPlayer, IsVarForm}
+use Rattle.zr_game.specs.Forms.{IsGame, IsPlayer, IsVarForm}
 use Rattle.zr_game.specs.Leaves.{HasPoint, IsWholeVar, LeafOf, above, below, greater, lesser, root_leaf}
 use Rattle.zr_game.proofs.Items.{at_number, one}
 use Rattle.zr_tree.specs.Form.{greatest_split, least_split}
@@ -27,8 +27,9 @@ use Rattle.zr_box_search.specs.declared.split.BoxSplit.{BoxSplit}
 use Rattle.zr_bnb.proofs.Directions.{all_get}
 use Rattle.zr_box_search.specs.Causes.{BoxWork}
 use Rattle.zr_box_search.specs.Drawn.{IsDrawnBox}
-use Rattle.zr_box_search.specs.Dues.{AreRanged, AddsMove, LeadsToBox, IsRanged, Paths, box_by, path_at}
+use Rattle.zr_box_search.specs.Dues.{AddsMove, LeadsToBox, IsRanged, Paths, box_by, path_at}
 use Rattle.zr_box_search.specs.Fates.{AreSearched, SplitsRange, SplitsRangeIn, IsEndNode}
+use Rattle.zr_box_search.specs.Narrow.{AreNarrowGains}
 use Rattle.zr_box_search.specs.OpenBoxes.{HasEndUnits, HasPoints, HasUnits, IsBoxSplit, IsOpenBox}
 use Rattle.zr_box_search.specs.Whole.{IsBoxGame, IsBoxPlayer}
 
@@ -371,6 +372,29 @@ module _ (player : PlayerOf) (box_player : IsBoxPlayer player) (leaf : LeafOf)
             ordered = r.ordered;
           }
 
+some_is : (o : Option ℤ) → IsSome o → (b : ℤ) × (o ≡ Some b)
+some_is None h = absurd cc
+some_is (Some b) h = (b, refl)
+
+-- the bounds of all points are ranges
+pub root_ranged : (player : PlayerOf) → IsBoxPlayer player → All IsVarForm player.vars → (v : ℕ)
+    → v < length player.vars → IsRanged (root_leaf player) v
+root_ranged player box forms v below =
+    let var = at_number player.vars v below in
+    let b = box.vars v var.0 var.1 in
+    let f = all_get IsVarForm player.vars v var.0 forms var.1 in
+    let l = some_is var.0.low b.low in
+    let u = some_is var.0.up b.up in
+    record {
+      low = l.0;
+      high = u.0;
+      low_is = ap (option_and_then (λ (w : VarOf). w.low)) var.1 ∙ l.1;
+      high_is = ap (option_and_then (λ (w : VarOf). w.up)) var.1 ∙ u.1;
+      least = f.low l.0 l.1;
+      greatest = f.up u.0 u.1;
+      ordered = f.ordered l.0 l.1 u.0 u.1;
+    }
+
 module _ (game : GameOf) where
   -- ---- from box to box
 
@@ -384,28 +408,6 @@ module _ (game : GameOf) where
         (sym (box_at game root k player is ∙ ap (branch player) (none k)))
         (root_ranged player (whole k player is) (sound.players k player is).vars v below);
   }
-    where
-      root_ranged : (player : PlayerOf) → IsBoxPlayer player → All IsVarForm player.vars → (v : ℕ)
-          → v < length player.vars → IsRanged (root_leaf player) v
-      root_ranged player box forms v below =
-          let var = at_number player.vars v below in
-          let b = box.vars v var.0 var.1 in
-          let f = all_get IsVarForm player.vars v var.0 forms var.1 in
-          let l = some_is var.0.low b.low in
-          let u = some_is var.0.up b.up in
-          record {
-            low = l.0;
-            high = u.0;
-            low_is = ap (option_and_then (λ (w : VarOf). w.low)) var.1 ∙ l.1;
-            high_is = ap (option_and_then (λ (w : VarOf). w.up)) var.1 ∙ u.1;
-            least = f.low l.0 l.1;
-            greatest = f.up u.0 u.1;
-            ordered = f.ordered l.0 l.1 u.0 u.1;
-          }
-        where
-          some_is : (o : Option ℤ) → IsSome o → (b : ℤ) × (o ≡ Some b)
-          some_is None h = absurd cc
-          some_is (Some b) h = (b, refl)
 
   pub growing_at_start : IsGame game → IsBoxGame game → (root : Paths)
       → length root ≡ length game → ((k : ℕ) → path_at root k ≡ [])
@@ -615,13 +617,18 @@ module _ (game : GameOf) where
       )
 
   pub searched_at_end : (nodes : List BNodeOf) (spent : ℕ) (old new : Purse)
-      → spent ≤ 1000000000 → new.branches ≡ old.branches + spent → IsGrowing game nodes [] spent
-      → AreSearched game old new nodes
-  searched_at_end nodes spent old new few paid g =
+      → spent ≤ 1000000000 → new.branches ≡ old.branches + spent
+      → ((t : BoxTreeOf) → IsRightBox game (root_box game) t → IsOpenBox game (root_box game) t
+      → IsDrawnBox game (root_box game) t → AreNarrowGains game (root_box game) t)
+      → IsGrowing game nodes [] spent → AreSearched game old new nodes
+  searched_at_end nodes spent old new few paid narrow g =
       let t = g.planned true [] tt in
       let e = t.3 ∙ append-nil nodes in
       let c = g.count in
       let u = t.4 in
+      let right = tree_right game (root_box game) t.0 t.1 t.2 in
+      let open_is = tree_is_open game true t.0 t.1 t.2 in
+      let drawn = tree_drawn game (root_box game) t.0 t.1 t.2 in
       record {
         form = record {
           whole = of_boxes nodes (t.0, e);
@@ -631,9 +638,10 @@ module _ (game : GameOf) where
         tree = t.0;
         nodes_are = e;
         searched = record {
-          right = tree_right game (root_box game) t.0 t.1 t.2;
-          open_is = tree_is_open game true t.0 t.1 t.2;
-          drawn = tree_drawn game (root_box game) t.0 t.1 t.2;
+          right = right;
+          open_is = open_is;
+          drawn = drawn;
+          narrow = narrow t.0 right open_is drawn;
           spent = t.1;
           units_are = tree_has_units game true t.0 t.1 t.2;
           branches = omega (arith, paid, u);

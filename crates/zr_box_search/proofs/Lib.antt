@@ -2,6 +2,9 @@ pub mod Growing
 pub mod Bounding
 pub mod Single
 pub mod Replies
+pub mod Wholes
+pub mod NarrowGains
+pub mod NarrowTrees
 pub mod Units
 pub mod PathLists
 pub mod Ends

@@ -1,5 +1,5 @@
 -- Paths and leaves of the players, one after another.
-use Rattle.std.proofs.Common.{◌≡◌, ◌≢◌, ℕ, zero, suc, ◌+◌, ◌-◌, ◌<◌, ◌≤◌, arith, refl, sym, ap, ap₂, ◌∙◌, subst, Vec, Option, Some, None, List, [], ◌∷◌, ◌++◌, map, length, length-append, get_or, slice_get, ◌⊎◌, ⊎_elim, ◌+ℤ◌, ◌*ℤ◌, ◌≤ℤ◌, int_lt, ℤ, pos, ◌==◌, Bool, true, false, cond, drop, drop-cons, add-one}
+use Rattle.std.proofs.Common.{◌≡◌, ℕ, zero, suc, ◌+◌, ◌-◌, ◌<◌, ◌≤◌, arith, refl, sym, ap, ap₂, ◌∙◌, subst, Vec, Option, Some, None, List, [], ◌∷◌, ◌++◌, length, length-append, get_or, slice_get, ⊎_elim, ◌+ℤ◌, ◌*ℤ◌, ◌≤ℤ◌, int_lt, ℤ, pos, ◌==◌, Bool, true, false, cond, drop, drop-cons, add-one}
 use Rattle.std.specs.Prelude.{MatchOption, option_to_list}
 use Rattle.std.specs.Option.{option_map_or, unwrap_or}
 use Rattle.std.specs.declared.alloc.Global.{Global}
@@ -12,7 +12,7 @@ use Rattle.zr_game.specs.declared.leaf.Leaf.{Leaf}
 use Rattle.zr_game.specs.declared.player.CrossTerm.{CrossTerm}
 use Rattle.zr_game.specs.Players.{GameOf, PlayerOf}
 use Rattle.zr_game.specs.Forms.{IsPlayer}
-use Rattle.zr_game.specs.Leaves.{IsLeafOf, LeafOf, leaf_of}
+use Rattle.zr_game.specs.Leaves.{IsLeafOf, leaf_of}
 use Rattle.zr_game.proofs.Items.{at_number, one}
 use Rattle.zr_asked.specs.declared.question.Move.{Move}
 use Rattle.zr_asked.specs.Paths.{branch}

@@ -1,6 +1,6 @@
 -- What the least value along a slope tells of a player in a single profile.
-use Rattle.std.proofs.Common.{◌≡◌, ◌≢◌, ℕ, zero, suc, ◌+◌, ◌*◌, ◌<◌, ◌≤◌, ◌^◌, arith, refl, sym, ap, ap₂, ◌∙◌, subst, ℤ, pos, negsuc, neg_ℤ, ◌+ℤ◌, ◌-ℤ◌, ◌*ℤ◌, ◌<ℤ◌, ◌≤ℤ◌, unsigned_abs, int_div, Bool, true, false, All, IfSome, IsSome, IsTrue, Option, Some, None, Result, Ok, Err, List, [], ◌∷◌, map, length, get_or, slice_get, inl, inr, ◌⊎◌, ⊎_elim}
-use Rattle.std.specs.Int.{IsGcd, ◌∣◌}
+use Rattle.std.proofs.Common.{◌≡◌, ℕ, zero, suc, ◌+◌, ◌<◌, arith, refl, sym, ap, ap₂, ◌∙◌, subst, ℤ, pos, ◌-ℤ◌, ◌*ℤ◌, ◌<ℤ◌, ◌≤ℤ◌, unsigned_abs, int_div, false, All, IfSome, IsSome, IsTrue, Option, Some, None, Err, List, [], ◌∷◌, map, length, get_or, slice_get, inl, inr, ◌⊎◌, ⊎_elim}
+use Rattle.std.specs.Int.{◌∣◌}
 use Rattle.std.proofs.Math.Nat.{dvd-mul_left, eq-one_of_dvd-one}
 use Rattle.std.proofs.lemmas.Nat.Gcd.{dvd_refl}
 use Rattle.std.proofs.lemmas.List.{get_or-map}
@@ -13,18 +13,17 @@ use Rattle.zr_base.specs.Fractions.{Fraction}
 use Rattle.zr_base.specs.Lowest.{IsLowest}
 use Rattle.zr_base.specs.Points.{PointOf, num_of}
 use Rattle.zr_base.specs.Steps.{IsNarrow, cross_of}
-use Rattle.zr_base.specs.Sums.{sum_to}
 use Rattle.zr_base.specs.Terms.{AscendWith, Terms}
 use Rattle.zr_base.proofs.CrossLaws.{cross_is}
 use Rattle.zr_base.proofs.Dense.{sum_to-mul, sum_to_same, sum_to_zero}
 use Rattle.zr_base.proofs.Divisors.{cancel}
 use Rattle.zr_base.proofs.Ring.{spread}
-use Rattle.zr_base.proofs.Worth.{le_of_times, le_times}
+use Rattle.zr_base.proofs.Worth.{le_times}
 use Rattle.zr_game.specs.declared.player.CrossTerm.{CrossTerm}
 use Rattle.zr_game.specs.Players.{GameOf, PlayerOf, VarOf}
 use Rattle.zr_game.specs.Feasible.{IsFeasible}
 use Rattle.zr_game.specs.Forms.{IsCoefficient, IsCrossForm, IsGame, IsPlayer, IsPlayerForm, IsVarForm}
-use Rattle.zr_game.specs.Leaves.{IsWholeVar, root_leaf}
+use Rattle.zr_game.specs.Leaves.{root_leaf}
 use Rattle.zr_game.specs.Rays.{ChangesWhole, Direction, IsRay, KeepsAllBounds, change_of}
 use Rattle.zr_game.proofs.Items.{at_number}
 use Rattle.zr_game.proofs.WholePoints.{IsWholePoint, exact_quotient, feasible_whole, whole_feasible, whole_of, whole_within}
@@ -44,9 +43,7 @@ use Rattle.zr_bnb.specs.Causes.{IsBnbCause, SpendsWork}
 use Rattle.zr_bnb.specs.Values.{IsLeastAt, IsLeastValue, scaled_aim}
 use Rattle.zr_boxes.specs.Boxes.{BoxOf}
 use Rattle.zr_boxes.specs.Gains.{IsBounded, least_gain, slope_range}
-use Rattle.zr_boxes.specs.Ranges.{HasRange, range_of}
-use Rattle.zr_boxes.specs.Right.{IsBetter}
-use Rattle.zr_bnb.proofs.Directions.{all_get}
+use Rattle.zr_boxes.specs.Ranges.{HasRange}
 use Rattle.zr_asked.specs.Stuck.{IsPlainAim}
 use Rattle.zr_box_search.specs.Causes.{IsPureSlope, MayAskIn}
 use Rattle.zr_box_search.specs.Dues.{AreRanged, IsRanged}
@@ -56,8 +53,7 @@ use Rattle.zr_box_search.specs.declared.answer.BoxStop.TheVariants as AStop
 use Rattle.zr_box_search.specs.OpenBoxes.{IsSingle}
 use Rattle.zr_box_search.specs.Sizes.{IsNearPoint, IsUpTo, number_size}
 use Rattle.zr_box_search.specs.Whole.{HasOpenPlayer, IsBoxGame, IsBoxPlayer, IsBoxVar, IsOpenVar}
-use Rattle.zr_box_search.proofs.Bounding.{number_up}
-use Rattle.zr_box_search.proofs.Single.{gain_is, own_feasible, own_sum, pure_slope, sum_at}
+use Rattle.zr_box_search.proofs.Single.{gain_is, own_sum, pure_slope, sum_at}
 
 -- ---- players of whole variables between bounds
 

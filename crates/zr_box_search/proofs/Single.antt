@@ -1,13 +1,13 @@
 -- A single profile: its slopes and gains exactly, and when it is an equilibrium.
-use Rattle.std.proofs.Common.{◌≡◌, ℕ, zero, suc, ◌+◌, ◌<◌, ◌≤◌, ◌==◌, arith, refl, sym, ap, ap₂, ◌∙◌, subst, ℤ, pos, negsuc, neg_ℤ, ◌+ℤ◌, ◌-ℤ◌, ◌*ℤ◌, ◌<ℤ◌, ◌≤ℤ◌, int_lt, Bool, true, false, cond, ◌||◌, All, Option, Some, None, List, [], ◌∷◌, map, length, get_or, slice_get, ⊎_elim}
+use Rattle.std.proofs.Common.{◌≡◌, ℕ, zero, suc, ◌+◌, ◌<◌, ◌≤◌, ◌==◌, arith, refl, sym, ap, ap₂, ◌∙◌, subst, ℤ, pos, negsuc, neg_ℤ, ◌+ℤ◌, ◌-ℤ◌, ◌*ℤ◌, ◌<ℤ◌, ◌≤ℤ◌, int_lt, Bool, true, false, cond, ◌||◌, Option, Some, List, [], ◌∷◌, map, length, get_or, slice_get, ⊎_elim}
 use Rattle.std.specs.List.{filter, list_any}
 use Rattle.std.specs.Option.{unwrap_or}
 use Rattle.std.proofs.lemmas.Int.{ints}
 use Rattle.std.proofs.lemmas.Bool.{cases_lt}
 use Rattle.std.proofs.lemmas.List.{get_or-map, get_or_past}
 use Rattle.std.proofs.lemmas.Option.{slice_get_within}
-use Rattle.zr_base.specs.Fractions.{Fraction, IsAtMost, IsSame, sum_over, times, whole}
-use Rattle.zr_base.specs.Points.{IsSamePoint, PointOf, num_of, value_of}
+use Rattle.zr_base.specs.Fractions.{IsAtMost, IsSame, times, whole}
+use Rattle.zr_base.specs.Points.{PointOf, num_of, value_of}
 use Rattle.zr_base.specs.Sums.{sum_products, sum_to}
 use Rattle.zr_base.specs.Terms.{Terms, coef_at}
 use Rattle.zr_base.proofs.Dense.{sum_to-add, sum_to-mul, sum_to_same}
@@ -15,7 +15,7 @@ use Rattle.zr_base.proofs.Members.{each_filter, each_of_all}
 use Rattle.zr_base.proofs.Ring.{spread}
 use Rattle.zr_base.proofs.Worth.{Each, Worth, at_most, sum_list, worth-below, worth-multiple, worth-plus, worth-sum, worth-times, worth-whole, worth-wider}
 use Rattle.zr_game.specs.declared.player.CrossTerm.{CrossTerm}
-use Rattle.zr_game.specs.Players.{GameOf, PlayerOf, VarOf}
+use Rattle.zr_game.specs.Players.{GameOf, PlayerOf}
 use Rattle.zr_game.specs.Costs.{point_of}
 use Rattle.zr_game.specs.Feasible.{IsFeasible}
 use Rattle.zr_game.specs.Forms.{IsCrossForm, IsGame, IsPlayer}

@@ -1,5 +1,5 @@
 -- What a search spends from box to box.
-use Rattle.std.proofs.Common.{◌≡◌, ℕ, ◌+◌, ◌-◌, ◌<◌, ◌≤◌, arith, refl, ◌∙◌, inl, List, [], ◌∷◌}
+use Rattle.std.proofs.Common.{◌≡◌, ℕ, ◌+◌, ◌-◌, ◌≤◌, arith, refl, ◌∙◌, inl, List, [], ◌∷◌}
 use Rattle.zr_io.specs.declared.purse.Purse.{Purse}
 use Rattle.zr_io.specs.declared.purse.Unit.TheVariants as AUnit
 use Rattle.zr_io.specs.Purses.{Spends, counted}
@@ -8,7 +8,7 @@ use Rattle.zr_cases.specs.Cases.{BNodeOf}
 use Rattle.zr_cases.specs.Trees.{Empty}
 use Rattle.zr_box_search.specs.declared.answer.BoxStop.{BoxStop}
 use Rattle.zr_box_search.specs.declared.answer.BoxStop.TheVariants as AStop
-use Rattle.zr_box_search.specs.Causes.{BoxWork, HasMoreBoxWork, IsBoxCause, SpendsBoxWork}
+use Rattle.zr_box_search.specs.Causes.{HasMoreBoxWork, IsBoxCause, SpendsBoxWork}
 use Rattle.zr_box_search.specs.Dues.{Paths, box_by}
 use Rattle.zr_box_search.specs.Fates.{IsEndCause, SpendsEndUnits, SpendsUnits}
 use Rattle.zr_box_search.proofs.Growing.{IsGrowing, work_of, work_with}

@@ -1,7 +1,6 @@
 -- The units of open trees, player by player.
-use Rattle.std.proofs.Common.{◌≡◌, ℕ, zero, suc, ◌+◌, ◌-◌, ◌<◌, ◌≤◌, arith, refl, sym, ap, ◌∙◌, subst, Some, List, [], ◌∷◌, take, inl, inr}
+use Rattle.std.proofs.Common.{◌≡◌, ℕ, zero, suc, ◌+◌, arith, refl, sym, ◌∙◌, subst, [], ◌∷◌, take, inr}
 use Rattle.zr_io.specs.declared.purse.Purse.{Purse}
-use Rattle.zr_io.specs.Purses.{counted}
 use Rattle.zr_game.specs.Players.{GameOf, PlayerOf}
 use Rattle.zr_game.specs.Forms.{IsPlayer}
 use Rattle.zr_asked.specs.OpenTrees.{Work, units}

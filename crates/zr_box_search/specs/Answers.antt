@@ -12,6 +12,7 @@ use Rattle.zr_boxes.specs.Right.{IsRightBox}
 use Rattle.zr_box_search.specs.declared.answer.BoxAnswer.{BoxAnswer}
 use Rattle.zr_box_search.specs.declared.answer.BoxAnswer.TheVariants.{Refuted, Unsettled}
 use Rattle.zr_box_search.specs.Drawn.{IsDrawnBox}
+use Rattle.zr_box_search.specs.Narrow.{AreNarrowGains}
 use Rattle.zr_box_search.specs.OpenBoxes.{HasUnits, IsOpenBox}
 use Rattle.zr_box_search.specs.Whole.{HasOpenPlayer}
 
@@ -19,12 +20,14 @@ use Rattle.zr_box_search.specs.Whole.{HasOpenPlayer}
 abbrev pub HasPureEquilibrium : GameOf → Type 0
 HasPureEquilibrium game = (profile : Profile) × IsOfKind Pure profile × IsEquilibrium game profile
 
--- the tree shows that no pure profile is an equilibrium; it is open and drawn, its units of work are
--- the branches that were spent, and it has no more nodes than splits and ends of so many
+-- the tree shows that no pure profile is an equilibrium; it is open and drawn, no deviation of it is
+-- too wide to check, its units of work are the branches that were spent, and it has no more nodes
+-- than splits and ends of so many
 pub record IsSearchedTree (game : GameOf) (old new : Purse) (t : BoxTreeOf) : Type 0 where
   pub right : IsRightBox game (root_box game) t
   pub open_is : IsOpenBox game (root_box game) t
   pub drawn : IsDrawnBox game (root_box game) t
+  pub narrow : AreNarrowGains game (root_box game) t
   pub spent : ℕ
   pub units_are : HasUnits game (root_box game) t spent
   pub branches : new.branches ≡ old.branches + spent

@@ -1,5 +1,5 @@
 -- Why the search for a box tree stops without an answer, and what it spends.
-use Rattle.std.specs.Prelude.{◌≡◌, ℕ, ◌+◌, ◌<◌, ◌≤◌, ℤ, List, length, ◌⊎◌}
+use Rattle.std.specs.Prelude.{◌≡◌, ℕ, ◌+◌, ◌<◌, ◌≤◌, length, ◌⊎◌}
 use Rattle.zr_base.specs.Fractions.{IsSame, whole}
 use Rattle.zr_io.specs.declared.purse.Purse.{Purse}
 use Rattle.zr_io.specs.Purses.{counted}

@@ -1,13 +1,11 @@
 -- Box trees whose proofs are drawn from the bases of questions.
 use Rattle.std.specs.Prelude.{◌≡◌, ℕ, ℤ, pos, List}
-use Rattle.zr_base.specs.Points.{PointOf}
 use Rattle.zr_game.specs.Players.{GameOf, PlayerOf}
 use Rattle.zr_game.specs.Forms.{IsPlayer}
 use Rattle.zr_simplex.specs.Programs.{numbers}
 use Rattle.zr_tree.specs.Nodes.{Multipliers}
 use Rattle.zr_asked.specs.Drawn.{IsDrawnProof}
 use Rattle.zr_asked.specs.Stuck.{IsZeroAim}
-use Rattle.zr_cases.specs.Cases.{BNodeOf, CutNode, EmptyNode, DeviateNode}
 use Rattle.zr_cases.specs.Trees.{BoxTreeOf, Cut, Empty, Deviate}
 use Rattle.zr_boxes.specs.Boxes.{BoxOf, cut_above, cut_below}
 

@@ -1,6 +1,7 @@
 pub mod Whole
 pub mod OpenBoxes
 pub mod Drawn
+pub mod Narrow
 pub mod Answers
 pub mod Causes
 pub mod Dues

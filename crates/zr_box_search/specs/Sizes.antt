@@ -1,5 +1,5 @@
 -- Sizes of numbers, by which sums stay within 128 bits.
-use Rattle.std.specs.Prelude.{◌≡◌, ℕ, ◌<◌, ◌≤◌, ℤ, pos, unsigned_abs, Some, List, length}
+use Rattle.std.specs.Prelude.{◌≡◌, ℕ, ◌<◌, ◌≤◌, ℤ, pos, unsigned_abs, length}
 use Rattle.std.specs.List.{All}
 use Rattle.zr_base.specs.Points.{PointOf, num_of}
 use Rattle.zr_base.specs.Terms.{coef_at}

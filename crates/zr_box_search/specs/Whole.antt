@@ -1,5 +1,5 @@
 -- The games for which box trees are searched: whole variables between bounds, and no pairs.
-use Rattle.std.specs.Prelude.{◌≡◌, ℕ, ◌<◌, true, false, IsSome, None, Some, List, [], length, slice_get, ◌⊎◌}
+use Rattle.std.specs.Prelude.{◌≡◌, ℕ, ◌<◌, true, false, IsSome, None, Some, [], length, slice_get, ◌⊎◌}
 use Rattle.zr_game.specs.Players.{GameOf, PlayerOf, VarOf}
 use Rattle.zr_game.specs.Forms.{IsPlayer}
 

@@ -1,4 +1,4 @@
-ghost use Rattle.std.specs.Prelude.{◌≡◌, ℕ, IfOk, IfErr, IfSome, MatchOption, length};
+ghost use Rattle.std.specs.Prelude.{◌≡◌, ◌<◌, ℕ, IfOk, IfErr, IfSome, MatchOption, length};
 ghost use Rattle.std.specs.List.{All};
 ghost use Rattle.zr_base.specs.Steps.{IsNarrow};
 ghost use Rattle.zr_io.specs.declared.purse.Purse.{Purse as APurse};
@@ -15,10 +15,13 @@ ghost use Rattle.zr_boxes.specs.Boxes.{BoxOf};
 ghost use Rattle.zr_box_search.specs.Dues.{AreLeaves, LeadsToBox, box_by, moves_of};
 ghost use Rattle.zr_box_search.specs.Fates.{IsEndCause, IsEndNode, IsRefutedLeaf, IsZeroStop};
 ghost use Rattle.zr_box_search.specs.OpenBoxes.{HasPoints};
+ghost use Rattle.zr_box_search.specs.Whole.{IsBoxGame, IsBoxPlayer};
 
 use crate::answer::BoxStop;
+use crate::witness::has_witness;
 use std::alloc::{AllocError, Global};
 use zr_asked::Move;
+use zr_base::NoMemory;
 use zr_branch::{AskStop, Reply, ask};
 use zr_cases::BNode;
 use zr_game::{Game, Leaf, Player};
@@ -33,9 +36,40 @@ fn zero_aim(alloc: Global, count: usize) -> Result<Vec<i128>, AllocError>
     vec![in alloc; 0; count]
 }
 
-/// Multipliers that show that the player's rows have no solution on the branch to which the path
-/// leads, or `None` where they have one.
+/// Multipliers that show that the rows of player `i` have no solution on the branch to which the
+/// path leads, or `None` where they have one: a whole point that is found, or else one that is
+/// asked for.
 fn refutation(
+    alloc: Global,
+    game: &Game,
+    i: u32,
+    player: &Player,
+    path: &[Move],
+    leaf: &Leaf,
+    purse: &mut Purse,
+) -> Result<Option<Vec<(u32, i128)>>, AskStop>
+    requires number { i < length (game_of game.now) }
+    requires player { IsPlayer (game_of game.now) i (player_of player.now) }
+    requires whole { IsBoxPlayer (player_of player.now) }
+    requires path { IsOpenPath (player_of player.now) path.now }
+    requires lengths { IsLeafOf (player_of player.now) leaf.now }
+    requires leaf { leaf_of leaf.now ≡ branch (player_of player.now) path.now }
+    ensures found { IfOk result (λ mult. MatchOption mult
+        (HasPoint (player_of player.now) (branch (player_of player.now) path.now))
+        (λ list. IsRefutedLeaf (player_of player.now) (branch (player_of player.now) path.now)
+        list.items)) }
+    ensures cause { IfErr result (IsZeroStop i (player_of player.now)) }
+    ensures purse { CountsPivotsAlone purse.old purse.new }
+{
+    match has_witness(alloc, game, i, player, leaf) {
+        Err(NoMemory) => Err(AskStop::NoMemory),
+        Ok(true) => Ok(None),
+        Ok(false) => asked_refutation(alloc, i, player, path, leaf, purse),
+    }
+}
+
+/// The same, asked.
+fn asked_refutation(
     alloc: Global,
     i: u32,
     player: &Player,
@@ -92,6 +126,7 @@ pub(crate) fn empty_node(
     leaves: &[Leaf],
     purse: &mut Purse,
 ) -> Result<Option<BNode>, BoxStop>
+    requires whole { IsBoxGame (game_of game.now) }
     requires due { LeadsToBox (game_of game.now) (moves_of paths.now) }
     requires leaves { AreLeaves (game_of game.now) (moves_of paths.now)
         (length (game_of game.now)) leaves.now }
@@ -105,7 +140,7 @@ pub(crate) fn empty_node(
     ensures purse { CountsPivotsAlone purse.old purse.new }
 {
     for (i, player) in game.players.iter().enumerate() {
-        match refutation(alloc, i as u32, player, &paths[i], &leaves[i], purse) {
+        match refutation(alloc, game, i as u32, player, &paths[i], &leaves[i], purse) {
             Err(stop) => return Err(stop_of(stop)),
             Ok(Some(mult)) => {
                 return Ok(Some(BNode::Empty {

@@ -4,16 +4,22 @@
 mod answer;
 mod better;
 mod boxes;
+mod early;
 mod empty;
 mod gain;
+mod mend;
 mod profile;
+mod setting;
 mod slope;
 mod split;
 #[cfg(test)]
 mod tests;
+mod tight;
 mod tree;
 mod visit;
 mod whole;
+mod widest;
+mod witness;
 
 pub use answer::{BoxAnswer, BoxStop};
 pub use tree::search;

@@ -44,7 +44,8 @@ pub(crate) fn high_at(leaves: &[Leaf], i: u32, var: usize) -> i64
     bound_at(&leaves[i].high, var).unwrap_or(0)
 }
 
-fn bound_at(bounds: &[Option<i64>], var: usize) -> Option<i64>
+/// The bound of the variable, if it has one.
+pub(crate) fn bound_at(bounds: &[Option<i64>], var: usize) -> Option<i64>
     ensures { result ≡ slice_index_or bounds.now var None }
 {
     if var < bounds.len() {
@@ -55,7 +56,7 @@ fn bound_at(bounds: &[Option<i64>], var: usize) -> Option<i64>
 }
 
 /// The number of the variable in the terms; 0 where it stands in none.
-fn number_at(terms: &[(u32, i64)], v: usize) -> i64
+pub(crate) fn number_at(terms: &[(u32, i64)], v: usize) -> i64
     ensures { result ≡ coef_at terms.now v }
 {
     for (var, number) in terms {

@@ -193,3 +193,26 @@ fn pennies_below_zero_have_none(rt: HostRuntime) -> Result<(), Fail> {
     assert_eq!(rt; units, 3);
     Ok(())
 }
+
+/// Pennies where the first player has a second variable besides, and `3x + 2z` is at most 4: where
+/// `x` is 1, the part with `z` at 1 is cut off as empty, and one deviation leaves both values of `z`.
+#[test]
+fn an_empty_part_is_cut_off(rt: HostRuntime) -> Result<(), Fail> {
+    let alloc = rt.alloc();
+    let first = player(
+        alloc,
+        "A",
+        vec![in alloc; variable(alloc, 0, 1)?, variable(alloc, 0, 1)?]?,
+        vec![in alloc; row(alloc, &[(0, 3), (1, 2)], 4)?]?,
+        &[(0, -2)],
+        vec![in alloc; term(0, 1, 4)]?,
+    )?;
+    let second = one_variable(alloc, "B", 0, 1, &[(0, 2)], term(0, 0, -4))?;
+    let (tree, units) = found(alloc, &game(alloc, first, second)?, 1000)?;
+    assert_eq!(rt;
+        tree.as_str(),
+        "split 0 0 0;split 1 0 0;deviate 0 1 1 0;deviate 1 1 0;split 0 1 0;split 1 0 0;deviate 1 1 1;deviate 0 1 0 0;empty 0 3;"
+    );
+    assert_eq!(rt; units, 4);
+    Ok(())
+}

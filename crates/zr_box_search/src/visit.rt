@@ -1,21 +1,23 @@
-ghost use Rattle.std.specs.Prelude.{ℕ, ◌≤◌, IfOk, IfErr};
+ghost use Rattle.std.specs.Prelude.{ℕ, ◌≤◌, IfOk, IfErr, length};
 ghost use Rattle.zr_game.specs.Games.{game_of};
 ghost use Rattle.zr_game.specs.Forms.{IsPlayer};
 ghost use Rattle.zr_game.specs.Players.{PlayerOf};
 ghost use Rattle.zr_tree.proofs.SettledLeaves.{KeepsRoot};
 ghost use Rattle.zr_boxes.specs.Paths.{box_of};
-ghost use Rattle.zr_box_search.specs.Dues.{AreRanged, LeadsToBox, box_by, moves_of};
+ghost use Rattle.zr_box_search.specs.Dues.{AreLeaves, AreRanged, LeadsToBox, box_by, moves_of};
 ghost use Rattle.zr_box_search.specs.Fates.{IsBoxFate, IsEndCause, SpendsEndUnits};
 ghost use Rattle.zr_box_search.specs.OpenBoxes.{HasPoints};
 ghost use Rattle.zr_box_search.specs.Whole.{IsBoxGame};
 
 use crate::answer::BoxStop;
 use crate::boxes::leaves_by;
+use crate::early::early_deviation;
 use crate::empty::empty_node;
 use crate::profile::deviation;
 use crate::split::{BoxSplit, where_to_split};
 use std::alloc::Global;
 use zr_asked::Move;
+use zr_base::NoMemory;
 use zr_cases::BNode;
 use zr_game::{Game, Leaf};
 use zr_io::Purse;
@@ -51,10 +53,37 @@ pub(crate) fn visit(
     let Ok(leaves) = leaves_by(alloc, game, paths) else {
         return Err(BoxStop::NoMemory);
     };
-    match empty_node(alloc, game, paths, &leaves, purse) {
+    match early_deviation(alloc, game, &leaves) {
+        Err(NoMemory) => Err(BoxStop::NoMemory),
+        Ok(Some(node)) => Ok(BoxFate::Closed { node }),
+        Ok(None) => without_deviation(alloc, game, paths, &leaves, purse),
+    }
+}
+
+/// The same, where the leaves are those of the box: it is empty, or every player has a point in it.
+fn without_deviation(
+    alloc: Global,
+    game: &Game,
+    paths: &[Vec<Move>],
+    leaves: &[Leaf],
+    purse: &mut Purse,
+) -> Result<BoxFate, BoxStop>
+    requires whole { IsBoxGame (game_of game.now) }
+    requires due { LeadsToBox (game_of game.now) (moves_of paths.now) }
+    requires leaves { AreLeaves (game_of game.now) (moves_of paths.now)
+        (length (game_of game.now)) leaves.now }
+    requires limit { purse.old.limit ≤ 1000000000 }
+    ensures fate { IfOk result (IsBoxFate (game_of game.now)
+        (box_by (game_of game.now) (moves_of paths.now)) purse.old purse.new) }
+    ensures cause { IfErr result (IsEndCause (game_of game.now)
+        (box_by (game_of game.now) (moves_of paths.now)) purse.old purse.new) }
+    ensures spends { SpendsEndUnits (game_of game.now)
+        (box_by (game_of game.now) (moves_of paths.now)) purse.old purse.new }
+{
+    match empty_node(alloc, game, paths, leaves, purse) {
         Err(stop) => Err(stop),
         Ok(Some(node)) => Ok(BoxFate::Closed { node }),
-        Ok(None) => with_points(alloc, game, &leaves, purse),
+        Ok(None) => with_points(alloc, game, leaves, purse),
     }
 }
 
@@ -77,9 +106,10 @@ fn with_points(
         (IsEndCause (game_of game.now) (box_of leaves.now) purse.old purse.new) }
     ensures spends { SpendsEndUnits (game_of game.now) (box_of leaves.now) purse.old purse.new }
 {
-    match where_to_split(game, leaves) {
-        Some(split) => Ok(BoxFate::Divided { split }),
-        None => match deviation(alloc, game, leaves, purse) {
+    match where_to_split(alloc, game, leaves) {
+        Err(NoMemory) => Err(BoxStop::NoMemory),
+        Ok(Some(split)) => Ok(BoxFate::Divided { split }),
+        Ok(None) => match deviation(alloc, game, leaves, purse) {
             Err(stop) => Err(stop),
             Ok(Some(node)) => Ok(BoxFate::Closed { node }),
             Ok(None) => Ok(BoxFate::Stable),

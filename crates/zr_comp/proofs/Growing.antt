@@ -28,7 +28,7 @@ use Rattle.zr_comp.specs.declared.case.Case.TheVariants as ACase
 use Rattle.zr_comp.specs.Answers.{IsOpenRefutation}
 use Rattle.zr_comp.specs.Causes.{HasMoreCases, SpendsCases}
 use Rattle.zr_comp.specs.Spending.{SpendsBranches}
-use Rattle.zr_comp.specs.Cases.{IsCase, IsDue, SuitsOne, case_node, case_price}
+use Rattle.zr_comp.specs.Cases.{IsCase, IsDuePath, SuitsOne, case_node, case_price}
 use Rattle.zr_comp.specs.Ends.{end_rule}
 use Rattle.zr_comp.specs.OpenCases.{CaseWork, IsOpenBy, IsOpenCases, case_units, total_below, which_units}
 use Rattle.zr_comp.specs.OpenPaths.{AreOpenChoices, MayChoose, SuitsKind}
@@ -62,10 +62,10 @@ module _ (game : GameOf) (leaves : LeavesOf) (kind : Kind) where
             (subst (λ (p : List Choice). MayChoose game leaves kind p c) e may),
       )
 
-  pub due_more : (path : List Choice) (c : Choice) → IsDue game leaves kind path
+  pub due_more : (path : List Choice) (c : Choice) → IsDuePath game leaves kind path
       → HasSolution (system_rows game leaves path) → MayChoose game leaves kind path c
       → SuitsOne kind c
-      → IsDue game leaves kind (then_choice path c)
+      → IsDuePath game leaves kind (then_choice path c)
   due_more path c due has may suits = record {
     open_is = choices_more [] path c due.open_is has may;
     suits = suits_more kind path c due.suits suits;
@@ -95,7 +95,7 @@ module _ (game : GameOf) (leaves : LeavesOf) (kind : Kind) where
 
   abbrev pub AreDue : List (List Choice) → Type 0
   AreDue [] = Unit {0}
-  AreDue (path ∷ paths) = IsDue game leaves kind path × AreDue paths
+  AreDue (path ∷ paths) = IsDuePath game leaves kind path × AreDue paths
 
   -- with trees for the paths that are due, the nodes are those of one tree, with so many units
   -- besides the trees'

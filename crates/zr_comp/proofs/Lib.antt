@@ -7,3 +7,4 @@ pub mod Growing
 pub mod Paths
 pub mod Solving
 pub mod Units
+pub mod Trying

@@ -12,7 +12,7 @@ use Rattle.zr_system.specs.Asked.{ChoiceExists, LeafExists}
 use Rattle.zr_system.specs.Choices.{AreSlotsDecided, IsComplete, IsLeafComplete, IsLeafDecided, IsUsed}
 use Rattle.zr_system.specs.Regions.{LeavesOf, leaf_count}
 use Rattle.zr_refute.specs.Refuting.{IsOpenLeaf, then_choice}
-use Rattle.zr_comp.specs.Cases.{AreMade, HasChosen, HasSide, IsChoiceList, IsDue, SuitsOne}
+use Rattle.zr_comp.specs.Cases.{AreMade, HasChosen, HasSide, IsChoiceList, IsDuePath, SuitsOne}
 use Rattle.zr_comp.specs.OpenPaths.{AreOnce, AreOpenChoices, MayChoose, SuitsKind}
 use Rattle.zr_comp.proofs.Suiting.{suits_more}
 
@@ -44,7 +44,7 @@ module _ (game : GameOf) (leaves : LeavesOf) where
       (open_exist kind (then_choice start c) cs
       (All-push (ChoiceExists game leaves) start c all (may_exist kind start c h.1)) h.2)
 
-  pub due_exist : (kind : Kind) (path : List Choice) → IsDue game leaves kind path
+  pub due_exist : (kind : Kind) (path : List Choice) → IsDuePath game leaves kind path
       → All (ChoiceExists game leaves) path
   due_exist kind path due = open_exist kind [] path (All-nil (ChoiceExists game leaves))
       due.open_is
@@ -109,7 +109,7 @@ module _ (game : GameOf) (leaves : LeavesOf) where
       (open_once kind (then_choice start c) cs
       (once_push start c once (may_be_new kind start c h.1)) h.2)
 
-  pub due_once : (kind : Kind) (path : List Choice) → IsDue game leaves kind path → AreOnce path
+  pub due_once : (kind : Kind) (path : List Choice) → IsDuePath game leaves kind path → AreOnce path
   due_once kind path due = open_once kind [] path tt due.open_is
 
   open_made : (kind : Kind) (start path : List Choice)
@@ -129,7 +129,7 @@ module _ (game : GameOf) (leaves : LeavesOf) where
         (sym (append_assoc start (x ∷ []) xs)) may),
   )
 
-  pub due_list : (kind : Kind) (path : List Choice) → IsDue game leaves kind path
+  pub due_list : (kind : Kind) (path : List Choice) → IsDuePath game leaves kind path
       → IsChoiceList game leaves kind path
   due_list kind path due = record {
     exist = due_exist kind path due;

@@ -41,18 +41,18 @@ pub record IsChoiceList (game : GameOf) (leaves : LeavesOf) (kind : Kind)
   pub made : AreMade game leaves kind [] path
 
 -- the path is one that a search of this kind goes on to
-pub record IsDue (game : GameOf) (leaves : LeavesOf) (kind : Kind)
+pub record IsDuePath (game : GameOf) (leaves : LeavesOf) (kind : Kind)
     (path : List Choice) : Type 0 where
   pub open_is : IsOpenChoicePath game leaves kind path
   pub suits : SuitsKind kind path
 
 -- the paths that are due, the next one first
-abbrev pub pending_on : List (List Choice) → List (Vec Choice Global) → List (List Choice)
-pending_on done [] = done
-pending_on done (path ∷ paths) = pending_on (path.items ∷ done) paths
+abbrev pub due_paths_on : List (List Choice) → List (Vec Choice Global) → List (List Choice)
+due_paths_on done [] = done
+due_paths_on done (path ∷ paths) = due_paths_on (path.items ∷ done) paths
 
-abbrev pub pending : List (Vec Choice Global) → List (List Choice)
-pending paths = pending_on [] paths
+abbrev pub due_paths : List (Vec Choice Global) → List (List Choice)
+due_paths paths = due_paths_on [] paths
 
 -- the case may be made on the path
 abbrev pub IsCase : GameOf → LeavesOf → Kind → List Choice → Case → Type 0

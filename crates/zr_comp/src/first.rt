@@ -149,6 +149,7 @@ pub(crate) fn player_case(game: &Game, leaves: &Leaves, path: &[Choice], i: u32)
     requires player { i < length (game_of game.now) }
     ensures some { IfSome result
         (IsCase (game_of game.now) (leaves_of leaves.now) Kind.Pure path.now) }
+    ensures same { IfSome result (λ case. case ≡ Case.Player i) }
     ensures none { result ≡ None → HasChosen (leaves_of leaves.now) path.now i }
 {
     for k in 0..leaf_count(game, leaves, i as usize) as u32 {

@@ -4,6 +4,7 @@
 mod answer;
 mod case;
 mod first;
+mod guess;
 mod index;
 mod laws;
 mod meeting;

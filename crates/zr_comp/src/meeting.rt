@@ -6,11 +6,12 @@ ghost use Rattle.zr_game.specs.declared.choice.Choice.{Choice as AChoice};
 ghost use Rattle.zr_game.specs.declared.kind.Kind.{Kind as AKind};
 ghost use Rattle.zr_system.specs.Regions.{LeavesOf, leaves_of};
 ghost use Rattle.zr_system.specs.Asked.{AreLeaves, IsUnknown, LeafExists};
+ghost use Rattle.zr_refute.specs.Refuting.{IsOpenPlayer};
 ghost use Rattle.zr_comp.specs.Cases.{AreFewSlots, IsCase, IsChoiceList, SuitsOne};
 ghost use Rattle.zr_comp.specs.OpenPaths.{MayChoose};
 
 use crate::case::Case;
-use crate::first::{leaf_case, slot_case};
+use crate::first::{leaf_case, player_case, slot_case};
 use crate::index::{leaf_index, player_index, slot_index};
 use crate::path::is_used;
 use crate::unmet::number_at;
@@ -96,6 +97,78 @@ fn settle_leaves(
 {
     for (j, u) in order.iter().enumerate() {
         settle_leaf(list, game, leaves, *u, number_at(point, j))?;
+    }
+    Ok(())
+}
+
+/// Appends the choice of a leaf of a player of whom no leaf is chosen.
+fn push_which(
+    list: &mut Vec<Choice>,
+    game: &Game,
+    leaves: &Leaves,
+    i: u32,
+    k: u32,
+) -> Result<(), AllocError>
+    requires leaf { LeafExists (game_of game.now) (leaves_of leaves.now) i k }
+    requires list { IsChoiceList (game_of game.now) (leaves_of leaves.now) Kind.Pure
+        list.old.items }
+    requires player { IsOpenPlayer (game_of game.now) Kind.Pure list.old.items i }
+    ensures { OnOk result
+        (IsChoiceList (game_of game.now) (leaves_of leaves.now) Kind.Pure list.new.items) }
+{
+    list.push(Choice::Which { player: i, leaf: k })?;
+    Ok(())
+}
+
+/// Appends the choice of the leaf that the unknown is the weight of, if that isn't 0 and no leaf of
+/// its player is chosen.
+fn settle_player(
+    list: &mut Vec<Choice>,
+    game: &Game,
+    leaves: &Leaves,
+    u: Unknown,
+    number: i128,
+) -> Result<(), AllocError>
+    requires leaves { AreLeaves (game_of game.now) leaves.now }
+    requires list { IsChoiceList (game_of game.now) (leaves_of leaves.now) Kind.Pure
+        list.old.items }
+    requires unknown { IsUnknown (game_of game.now) (leaves_of leaves.now) u }
+    ensures { OnOk result
+        (IsChoiceList (game_of game.now) (leaves_of leaves.now) Kind.Pure list.new.items) }
+{
+    match u {
+        Unknown::Weight { player, leaf } => {
+            if number == 0 {
+                return Ok(());
+            }
+            let i = player_index(game, player);
+            let k = leaf_index(game, leaves, player, leaf);
+            match player_case(game, leaves, list, i) {
+                None => Ok(()),
+                Some(_) => push_which(list, game, leaves, i, k),
+            }
+        }
+        _ => Ok(()),
+    }
+}
+
+/// Appends the choice of a leaf with weight of each player of whom none is chosen.
+fn settle_players(
+    list: &mut Vec<Choice>,
+    game: &Game,
+    leaves: &Leaves,
+    order: &[Unknown],
+    point: &Point,
+) -> Result<(), AllocError>
+    requires leaves { AreLeaves (game_of game.now) leaves.now }
+    requires list { IsChoiceList (game_of game.now) (leaves_of leaves.now) Kind.Pure
+        list.old.items }
+    requires order { All (IsUnknown (game_of game.now) (leaves_of leaves.now)) order.now }
+    ensures { OnOk result
+        (IsChoiceList (game_of game.now) (leaves_of leaves.now) Kind.Pure list.new.items) }
+{
+    for (j, u) in order.iter().enumerate() {
+        settle_player(list, game, leaves, *u, number_at(point, j))?;
     }
     Ok(())
 }
@@ -198,7 +271,7 @@ pub(crate) fn met_choices(
 {
     let mut list = path.to_vec(alloc)?;
     match kind {
-        Kind::Pure => {}
+        Kind::Pure => settle_players(&mut list, game, leaves, order, point)?,
         Kind::Mixed => settle_leaves(&mut list, game, leaves, order, point)?,
     }
     settle_slots(&mut list, game, leaves, kind, order, point)?;

@@ -3,7 +3,7 @@ ghost use Rattle.std.specs.List.{Contains};
 ghost use Rattle.zr_system.specs.Choices.{IsUsed};
 ghost use Rattle.zr_refute.specs.Refuting.{then_choice};
 ghost use Rattle.zr_refute.specs.Walks.{whiches};
-ghost use Rattle.zr_comp.specs.Cases.{pending};
+ghost use Rattle.zr_comp.specs.Cases.{due_paths};
 
 use std::alloc::{AllocError, Global};
 use zr_game::Choice;
@@ -29,15 +29,15 @@ pub(crate) fn is_used(path: &[Choice], i: u32, k: u32) -> bool
 
 /// Takes the path that is next.
 pub(crate) fn take_next(due: &mut Vec<Vec<Choice>>) -> Option<Vec<Choice>>
-    ensures { MatchOption result (pending due.old.items ≡ [])
-        (λ path. pending due.old.items ≡ path.items ∷ pending due.new.items) }
+    ensures { MatchOption result (due_paths due.old.items ≡ [])
+        (λ path. due_paths due.old.items ≡ path.items ∷ due_paths due.new.items) }
 {
     due.pop()
 }
 
 /// Makes a path the next one.
 pub(crate) fn put_next(due: &mut Vec<Vec<Choice>>, path: Vec<Choice>) -> Result<(), AllocError>
-    ensures { OnOk result (pending due.new.items ≡ path.items ∷ pending due.old.items) }
+    ensures { OnOk result (due_paths due.new.items ≡ path.items ∷ due_paths due.old.items) }
 {
     due.push(path)?;
     Ok(())
@@ -50,8 +50,8 @@ pub(crate) fn put_child(
     path: &[Choice],
     choice: Choice,
 ) -> Result<(), AllocError>
-    ensures { OnOk result (pending due.new.items
-        ≡ then_choice path.now choice ∷ pending due.old.items) }
+    ensures { OnOk result (due_paths due.new.items
+        ≡ then_choice path.now choice ∷ due_paths due.old.items) }
 {
     let mut longer = path.to_vec(alloc)?;
     longer.push(choice)?;
@@ -66,8 +66,8 @@ pub(crate) fn put_leaves(
     i: u32,
     leaves: u32,
 ) -> Result<(), AllocError>
-    ensures { OnOk result (pending due.new.items
-        ≡ whiches path.now i 0 leaves ++ pending due.old.items) }
+    ensures { OnOk result (due_paths due.new.items
+        ≡ whiches path.now i 0 leaves ++ due_paths due.old.items) }
 {
     let mut k = leaves;
     'leaves: while k > 0 {

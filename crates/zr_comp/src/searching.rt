@@ -9,7 +9,7 @@ ghost use Rattle.zr_system.specs.Regions.{leaves_of};
 ghost use Rattle.zr_system.specs.System.{cell_count};
 ghost use Rattle.zr_refute.specs.Walks.{children};
 ghost use Rattle.zr_comp.specs.Answers.{IsFound};
-ghost use Rattle.zr_comp.specs.Cases.{AreFewSlots, PlayerExists, case_node, case_price, pending};
+ghost use Rattle.zr_comp.specs.Cases.{AreFewSlots, PlayerExists, case_node, case_price, due_paths};
 ghost use Rattle.zr_comp.specs.Causes.{IsCompCause, SpendsCases};
 ghost use Rattle.zr_comp.specs.OpenCases.{which_units};
 ghost use Rattle.zr_comp.specs.Spending.{SpendsUpTo};
@@ -17,7 +17,7 @@ ghost use Rattle.zr_comp.specs.Spending.{SpendsUpTo};
 use crate::answer::{CompStop, Found};
 use crate::case::Case;
 use crate::path::{put_child, put_leaves, put_next, take_next};
-use crate::visit::{Fate, visit};
+use crate::visit::{Fate, tried, visit};
 use std::alloc::{AllocError, Global};
 use zr_cases::{RNode, Refutation};
 use zr_game::{Choice, Game, Kind};
@@ -94,8 +94,8 @@ fn put_children(
 ) -> Result<(), AllocError>
     requires leaves { AreLeaves (game_of game.now) leaves.now }
     requires case { PlayerExists (game_of game.now) case }
-    ensures { OnOk result (pending due.new.items
-        ≡ children (leaves_of leaves.now) path.now (case_node case) ++ pending due.old.items) }
+    ensures { OnOk result (due_paths due.new.items
+        ≡ children (leaves_of leaves.now) path.now (case_node case) ++ due_paths due.old.items) }
 {
     match case {
         Case::Leaf { player, leaf } => {
@@ -127,8 +127,8 @@ fn divide(
     requires case { PlayerExists (game_of game.now) case }
     ensures nodes { OnOk result (map rnode_of nodes.new.items
         ≡ map rnode_of nodes.old.items ++ case_node case ∷ []) }
-    ensures due { OnOk result (pending due.new.items
-        ≡ children (leaves_of leaves.now) path.items (case_node case) ++ pending due.old.items) }
+    ensures due { OnOk result (due_paths due.new.items
+        ≡ children (leaves_of leaves.now) path.items (case_node case) ++ due_paths due.old.items) }
     ensures form { OnOk result (IsCaseForm (case_node case)) }
 {
     push_node(nodes, node_of(case))?;
@@ -146,19 +146,8 @@ fn refutation_of(nodes: Vec<RNode>) -> Refutation
     }
 }
 
-/// A solution of the system of the game over the leaves under a complete list of choices, or a
-/// refutation of the system, for the kind.
-///
-/// The leaves are those of the game, each with fewer than 2^31 slots, and the system has at most
-/// 16,777,216 cells where no choice is made. The purse pays the cases, and its limit is at most
-/// 1,000,000,000.
-///
-/// # Errors
-///
-/// `Spent` where a case is due and the purse is at its limit: an open tree then has more units
-/// than the purse had left. `Wide` where the question of a path is stuck. `WideRow` where a step
-/// of a coefficient of the system is too wide. `NoMemory` for want of memory.
-pub fn search(
+/// What `search` finds by cases.
+fn search_cases(
     alloc: Global,
     game: &Game,
     leaves: &Leaves,
@@ -202,4 +191,41 @@ pub fn search(
         }
     }
     Ok(Found::Refuted(refutation_of(nodes)))
+}
+
+/// A solution of the system of the game over the leaves under a complete list of choices, or a
+/// refutation of the system, for the kind.
+///
+/// The leaves are those of the game, each with fewer than 2^31 slots, and the system has at most
+/// 16,777,216 cells where no choice is made. The purse pays the cases, and its limit is at most
+/// 1,000,000,000.
+///
+/// # Errors
+///
+/// `Spent` where a case is due and the purse is at its limit: an open tree then has more units
+/// than the purse had left. `Wide` where the question of a path is stuck. `WideRow` where a step
+/// of a coefficient of the system is too wide. `NoMemory` for want of memory.
+pub fn search(
+    alloc: Global,
+    game: &Game,
+    leaves: &Leaves,
+    kind: Kind,
+    purse: &mut Purse,
+) -> Result<Found, CompStop>
+    requires leaves { AreLeaves (game_of game.now) leaves.now }
+    requires slots { AreFewSlots (game_of game.now) (leaves_of leaves.now) }
+    requires cells { cell_count (game_of game.now) (leaves_of leaves.now) ≤ 16777216 }
+    requires limit { purse.old.limit ≤ 1000000000 }
+    ensures found { IfOk result
+        (IsFound (game_of game.now) (leaves_of leaves.now) kind purse.old purse.new) }
+    ensures cause { IfErr result
+        (IsCompCause (game_of game.now) (leaves_of leaves.now) kind purse.old purse.new) }
+    ensures spends { SpendsCases (game_of game.now) (leaves_of leaves.now) kind purse.old
+        purse.new }
+{
+    match tried(alloc, game, leaves, kind, purse) {
+        Err(stop) => Err(stop),
+        Ok(Some(point)) => Ok(Found::Solved(point)),
+        Ok(None) => search_cases(alloc, game, leaves, kind, purse),
+    }
 }

@@ -12,13 +12,14 @@ ghost use Rattle.zr_branch.specs.Replies.{CountsPivotsAlone};
 ghost use Rattle.zr_choices.specs.Replies.{IsChoicesCause, IsSolvedBy};
 ghost use Rattle.zr_comp.specs.Answers.{IsSolution};
 ghost use Rattle.zr_comp.specs.OpenPaths.{IsOpenChoicePath};
-ghost use Rattle.zr_comp.specs.Cases.{AreFewSlots, IsChoiceList, IsDue};
+ghost use Rattle.zr_comp.specs.Cases.{AreFewSlots, IsChoiceList, IsDuePath};
 ghost use Rattle.zr_comp.specs.Causes.{IsCompCause};
 ghost use Rattle.zr_comp.specs.Fates.{IsFate};
 
 use crate::answer::CompStop;
 use crate::case::Case;
 use crate::first::first_case;
+use crate::guess::guess;
 use crate::meeting::met_choices;
 use crate::unmet_leaf::unmet_case;
 use std::alloc::Global;
@@ -144,7 +145,7 @@ pub(crate) fn visit(
     requires leaves { AreLeaves (game_of game.now) leaves.now }
     requires few { AreFewSlots (game_of game.now) (leaves_of leaves.now) }
     requires columns { length (columns (game_of game.now) (leaves_of leaves.now)) < 16777217 }
-    requires path { IsDue (game_of game.now) (leaves_of leaves.now) kind path.now }
+    requires path { IsDuePath (game_of game.now) (leaves_of leaves.now) kind path.now }
     ensures fate { IfOk result (IsFate (game_of game.now) (leaves_of leaves.now) kind path.now) }
     ensures cause { (old new : APurse) → IfErr result
         (IsCompCause (game_of game.now) (leaves_of leaves.now) kind old new) }
@@ -154,5 +155,33 @@ pub(crate) fn visit(
         Err(stop) => Err(stop_of(stop)),
         Ok(Reply::Close(mult)) => Ok(Fate::Closed(mult)),
         Ok(Reply::Point(point)) => fate_of(alloc, game, leaves, kind, path, point, purse),
+    }
+}
+
+/// A solution that small supports lead to, where all leaves are single points.
+#[tactic(auto, using(crate::proofs::Trying::no_choices))]
+pub(crate) fn tried(
+    alloc: Global,
+    game: &Game,
+    leaves: &Leaves,
+    kind: Kind,
+    purse: &mut Purse,
+) -> Result<Option<Point>, CompStop>
+    requires leaves { AreLeaves (game_of game.now) leaves.now }
+    requires few { AreFewSlots (game_of game.now) (leaves_of leaves.now) }
+    requires columns { length (columns (game_of game.now) (leaves_of leaves.now)) < 16777217 }
+    ensures found { IfOk result (λ found. IfSome found
+        (IsSolution (game_of game.now) (leaves_of leaves.now) kind)) }
+    ensures cause { (old new : APurse) → IfErr result
+        (IsCompCause (game_of game.now) (leaves_of leaves.now) kind old new) }
+    ensures purse { CountsPivotsAlone purse.old purse.new }
+{
+    let Ok(order) = unknowns(alloc, game, leaves) else {
+        return Err(CompStop::NoMemory);
+    };
+    match guess(alloc, game, leaves, kind, &order, purse) {
+        Err(_) => Err(CompStop::NoMemory),
+        Ok(None) => Ok(None),
+        Ok(Some(point)) => confirmed(alloc, game, leaves, kind, &order, &point, &[], purse),
     }
 }

@@ -86,7 +86,7 @@ module _ (game : GameOf) (form : IsGame game) (profile : Profile)
       ap (λ (g : Fraction). g.den)
       (whole_least game form profile equilibrium i player is left right claim f least.0 least.1)
 
-  may_own : (aim : List ℤ) → MayAsk player (map neg_ℤ left) aim → MayAskOwn i player profile aim
+  pub may_own : (aim : List ℤ) → MayAsk player (map neg_ℤ left) aim → MayAskOwn i player profile aim
   may_own aim (inl e) = inl (subst (IsOwnAim i player profile) (sym e) own_aim)
   may_own aim (inr (inl (f, least, e))) =
       inl (subst (IsOwnAim i player profile)

@@ -20,7 +20,7 @@ use Rattle.zr_bnb.specs.declared.answer.BnbStop.{BnbStop}
 use Rattle.zr_bnb.specs.declared.answer.BnbStop.TheVariants as ABnb
 use Rattle.zr_bnb.specs.declared.answer.LeastAnswer.{LeastAnswer}
 use Rattle.zr_bnb.specs.declared.answer.LeastAnswer.TheVariants.{At, Below, Empty}
-use Rattle.zr_bnb.specs.Answers.{HasFewNodes, IsLeastAnswer}
+use Rattle.zr_bnb.specs.Answers.{HasFewNodes, IsLeastAnswer, MayAsk}
 use Rattle.zr_bnb.specs.Causes.{IsBnbCause}
 use Rattle.zr_bnb.specs.Values.{least_row}
 use Rattle.zr_mix.specs.Checks.{IsClaimOf}
@@ -32,10 +32,12 @@ use Rattle.zr_check.specs.Bounds.{IsCostMade}
 use Rattle.zr_check.proofs.MadeCosts.{claim_of_cost}
 use Rattle.zr_costs.specs.declared.claim.Paid.{Paid}
 use Rattle.zr_costs.specs.declared.stop.CostStop.{CostStop}
-use Rattle.zr_costs.specs.Causes.{IsBoundCause}
+use Rattle.zr_costs.specs.Causes.{IsBoundCause, MayAskOwn}
 use Rattle.zr_costs.specs.Costs.{AreStableMeans}
+use Rattle.zr_costs.specs.Drawn.{IsDrawnTree}
 use Rattle.zr_costs.specs.Halts.{HasLeast, IsBoundBy, IsBoundMade, IsPaid, IsPlainStop, IsStopFor}
-use Rattle.zr_costs.proofs.Asking.{own_aim, plain_stop, stuck_own}
+use Rattle.zr_costs.proofs.Asking.{may_own, own_aim, plain_stop, stuck_own}
+use Rattle.zr_costs.proofs.DrawnEnds.{drawn_also}
 use Rattle.zr_costs.proofs.Forms.{bound_nodes}
 use Rattle.zr_costs.proofs.Leasts.{row_is, whole_least}
 use Rattle.zr_costs.proofs.Narrow.{all_turned_narrow, left_narrow}
@@ -104,6 +106,18 @@ module _ (game : GameOf) (form : IsGame game) (mixtures : List MixtureOf) (means
           (each_of_all IsNodeForm (preorder answer.0)
           (subst (All IsNodeForm) (sym answer.3) tree.whole.forms)))
 
+      -- the tree of the least value is drawn from questions with aims of the player's cost
+      drawn_tree : IsDrawnTree player (MayAskOwn i player (profile_with mixtures)) (nodes_of tree)
+      drawn_tree = record {
+        tree = answer.0;
+        listed = answer.3;
+        open_is = answer.5.open_is;
+        drawn = drawn_also player (MayAsk player (map neg_ℤ paid.left.items))
+            (MayAskOwn i player (profile_with mixtures))
+            (may_own game form (profile_with mixtures) stable.equilibrium i player is
+            paid.left.items made.0 claimed.0) answer.0 (root_leaf player) answer.5.drawn;
+      }
+
       bound_with_tree : HasFewNodes old new (At point value tree)
           → IsBoundMade player i (profile_with mixtures) old new
           (record { cost = paid.cost; tree = tree })
@@ -119,6 +133,7 @@ module _ (game : GameOf) (form : IsGame game) (mixtures : List MixtureOf) (means
           cost = claimed.1.lowest;
           tree = record { whole = tree.whole; each = nodes_are };
         };
+        drawn = drawn_tree;
         few = subst (λ k. k ≤ 1 + 2 * (new.branches - old.branches))
             (sym (length-map tree.nodes.items node_of)) few;
       }

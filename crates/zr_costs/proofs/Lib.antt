@@ -5,6 +5,7 @@ mod Rays
 mod Asking
 mod Forms
 mod Narrow
+mod DrawnEnds
 mod Bounding
 mod Working
 mod Stopping

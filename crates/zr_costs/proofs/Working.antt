@@ -18,6 +18,7 @@ use Rattle.zr_cert.specs.Forms.{IsBoundForm}
 use Rattle.zr_check.specs.Right.{IsRightBound}
 use Rattle.zr_best.specs.Works.{AreOpenTrees, HasMoreBestWork, SpendsBestWork, all_units}
 use Rattle.zr_costs.specs.Costs.{AreRightBounds, HaveFewNodes, node_count}
+use Rattle.zr_costs.specs.Drawn.{AreDrawnBounds, IsDrawnBound}
 use Rattle.zr_costs.specs.Halts.{IsBoundMade}
 
 -- ---- trees
@@ -153,6 +154,11 @@ all_work game i old new h =
 
 -- ---- bounds
 
+-- the bound is right and drawn
+abbrev pub IsGoodBound : PlayerOf → ℕ → Profile → BoundOf → Type 0
+IsGoodBound player i profile bound =
+    IsRightBound player i profile bound × IsDrawnBound player i profile bound
+
 -- the bounds of the first players
 pub record BoundsSoFar (game : GameOf) (profile : Profile) (i : ℕ) (bounds : List Bound)
     (old new : Purse) : Type 0 where
@@ -160,7 +166,7 @@ pub record BoundsSoFar (game : GameOf) (profile : Profile) (i : ℕ) (bounds : L
   pub forms : All IsBoundForm (map bound_of bounds)
   pub bounds_of : (k : ℕ) (player : PlayerOf) → k < i → IsPlayer game k player
       → (bound : BoundOf) × (slice_get (map bound_of bounds) k ≡ Some bound)
-      × IsRightBound player k profile bound
+      × IsGoodBound player k profile bound
   pub few : node_count (map bound_of bounds) ≤ i + 2 * (new.branches - old.branches)
   pub work : SpendsBestWork (take i game) old new
 
@@ -204,19 +210,19 @@ module _ (game : GameOf) (profile : Profile) (i : ℕ) (player : PlayerOf)
 
   found : (k : ℕ) (other : PlayerOf) → k < i + 1 → IsPlayer game k other
       → (b : BoundOf) × (slice_get (listed ++ bound_of bound ∷ []) k ≡ Some b)
-      × IsRightBound other k profile b
+      × IsGoodBound other k profile b
   found k other below here =
       ⊎_elim (λ (e : k ≡ i). last e) (λ (n : k ≡ i → ⊥). first (omega (arith, n, below)))
       (cases_eq k i)
     where
       first : k < i → (b : BoundOf) × (slice_get (listed ++ bound_of bound ∷ []) k ≡ Some b)
-          × IsRightBound other k profile b
+          × IsGoodBound other k profile b
       first h =
           let b = before.bounds_of k other h here in
           (b.0, before_end listed (bound_of bound) b.0 k b.1, b.2)
 
       last : k ≡ i → (b : BoundOf) × (slice_get (listed ++ bound_of bound ∷ []) k ≡ Some b)
-          × IsRightBound other k profile b
+          × IsGoodBound other k profile b
       last e =
           let q = subst (λ n. IsPlayer game n other) e here in
           let same = sym (get_or_from_slice_get game i player player is)
@@ -224,10 +230,11 @@ module _ (game : GameOf) (profile : Profile) (i : ℕ) (player : PlayerOf)
           let at = subst (λ n. slice_get (listed ++ bound_of bound ∷ []) n ≡ Some (bound_of bound))
           before.len (at_end listed (bound_of bound)) in
           subst (λ n. (b : BoundOf) × (slice_get (listed ++ bound_of bound ∷ []) n ≡ Some b)
-          × IsRightBound other n profile b) (sym e) (
+          × IsGoodBound other n profile b) (sym e) (
             bound_of bound,
             at,
-            subst (λ (p : PlayerOf). IsRightBound p i profile (bound_of bound)) same made.right,
+            subst (λ (p : PlayerOf). IsGoodBound p i profile (bound_of bound)) same
+                (made.right, made.drawn),
           )
 
   -- a bound more
@@ -244,7 +251,7 @@ module _ (game : GameOf) (profile : Profile) (i : ℕ) (player : PlayerOf)
         (All-cons IsBoundForm (bound_of bound) [] made.form (All-nil IsBoundForm)));
     bounds_of = λ k other below here.
         subst (λ (xs : List BoundOf). (b : BoundOf) × (slice_get xs k ≡ Some b)
-        × IsRightBound other k profile b) (sym joined) (found k other below here);
+        × IsGoodBound other k profile b) (sym joined) (found k other below here);
     few = (
         let e = ap node_count joined in
         let a = count_append listed (bound_of bound ∷ []) in
@@ -265,8 +272,18 @@ all_bounds game profile i bounds old new e h = record {
   len = h.len ∙ e;
   forms = h.forms;
   bounds_of = λ k player is.
-      h.bounds_of k player (subst (λ n. k < n) (sym e) (slice_get_within game k player is)) is;
+      let b = h.bounds_of k player (subst (λ n. k < n) (sym e) (slice_get_within game k player is))
+      is in
+      (b.0, b.1, b.2.0);
 }
+
+pub drawn_bounds : (game : GameOf) (profile : Profile) (i : ℕ) (bounds : List Bound)
+    (old new : Purse) → i ≡ length game → BoundsSoFar game profile i bounds old new
+    → AreDrawnBounds game profile (map bound_of bounds)
+drawn_bounds game profile i bounds old new e h k player is =
+    let b = h.bounds_of k player (subst (λ n. k < n) (sym e) (slice_get_within game k player is))
+    is in
+    (b.0, b.1, b.2.1)
 
 pub few_nodes : (game : GameOf) (profile : Profile) (i : ℕ) (bounds : List Bound) (old new : Purse)
     → i ≡ length game → BoundsSoFar game profile i bounds old new

@@ -14,6 +14,7 @@ use Rattle.zr_cert.specs.Certs.{bound_of, nodes_of}
 use Rattle.zr_cert.specs.Forms.{IsBoundForm}
 use Rattle.zr_check.specs.Bounds.{cost_steps}
 use Rattle.zr_check.specs.Right.{IsRightBound}
+use Rattle.zr_costs.specs.Drawn.{IsDrawnBound}
 use Rattle.zr_costs.specs.declared.claim.Paid.{Paid}
 use Rattle.zr_costs.specs.declared.stop.CostStop.{CostStop}
 use Rattle.zr_costs.specs.declared.stop.CostStop.TheVariants as AStop
@@ -58,10 +59,11 @@ IsStopFor i (ABnb.WideAim wide) stop = ⊥
 IsStopFor i (ABnb.Endless var dir) stop = stop ≡ AStop.Endless i var dir
 IsStopFor i ABnb.NoMemory stop = stop ≡ AStop.NoMemory
 
--- a right bound of player i, in its form, whose tree has at most one node more than twice the
--- branches that were spent
+-- a right bound of player i, in its form, whose tree is drawn and has at most one node more than
+-- twice the branches that were spent
 pub record IsBoundMade (player : PlayerOf) (i : ℕ) (profile : Profile) (old new : Purse)
     (bound : Bound) : Type 0 where
   pub right : IsRightBound player i profile (bound_of bound)
   pub form : IsBoundForm (bound_of bound)
+  pub drawn : IsDrawnBound player i profile (bound_of bound)
   pub few : length (nodes_of bound.tree) ≤ 1 + 2 * (new.branches - old.branches)

@@ -1,3 +1,4 @@
 pub mod Costs
 pub mod Causes
+pub mod Drawn
 pub mod Halts

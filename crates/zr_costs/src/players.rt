@@ -7,6 +7,7 @@ ghost use Rattle.zr_best.specs.Best.{ArePlayed};
 ghost use Rattle.zr_best.specs.Works.{SpendsBestWork};
 ghost use Rattle.zr_costs.specs.Costs.{AreRightBounds, AreStableMeans, HaveFewNodes};
 ghost use Rattle.zr_costs.specs.Causes.{IsCostCause};
+ghost use Rattle.zr_costs.specs.Drawn.{AreDrawnBounds};
 
 use crate::bound::bound_at;
 use crate::means::means_of;
@@ -24,6 +25,8 @@ use zr_mix::Profile;
 /// The profile is an equilibrium. Its strategies have the sums of their weights as their totals.
 /// One purse pays the splits of all players' searches; its limit is at most 1,000,000,000. The
 /// trees have together at most one node for each player, and two for each branch that was spent.
+/// Each tree is open, and its multipliers are drawn from questions of the player's points whose aim
+/// is the left side of its claim with the signs turned, zero, or plus or minus one variable.
 ///
 /// # Errors
 ///
@@ -43,6 +46,8 @@ pub fn bounds(
         (profile_with (mixtures_of profile.now)) }
     requires limit { purse.old.limit ≤ 1000000000 }
     ensures bounds { IfOk result (λ bounds. AreRightBounds (game_of game.now)
+        (profile_with (mixtures_of profile.now)) (map bound_of bounds.items)) }
+    ensures drawn { IfOk result (λ bounds. AreDrawnBounds (game_of game.now)
         (profile_with (mixtures_of profile.now)) (map bound_of bounds.items)) }
     ensures few { IfOk result (λ bounds. HaveFewNodes (game_of game.now) purse.old purse.new
         (map bound_of bounds.items)) }
@@ -70,6 +75,8 @@ fn bounds_at(
     requires len { length means.now ≡ var_total (game_of game.now) }
     requires limit { purse.old.limit ≤ 1000000000 }
     ensures bounds { IfOk result (λ bounds. AreRightBounds (game_of game.now)
+        (profile_with (mixtures_of profile.now)) (map bound_of bounds.items)) }
+    ensures drawn { IfOk result (λ bounds. AreDrawnBounds (game_of game.now)
         (profile_with (mixtures_of profile.now)) (map bound_of bounds.items)) }
     ensures few { IfOk result (λ bounds. HaveFewNodes (game_of game.now) purse.old purse.new
         (map bound_of bounds.items)) }

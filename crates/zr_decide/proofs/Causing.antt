@@ -1,18 +1,23 @@
 -- What a stop says of the game, and the work up to it.
-use Rattle.std.proofs.Common.{ℕ, ◌+◌, arith, refl, ◌∙◌, Result, Ok, Err, IfErr, List, take, inl, inr}
+use Rattle.std.proofs.Common.{ℕ, ◌+◌, arith, refl, ◌∙◌, Result, Ok, Err, IfErr, List, take, inl, inr, ⊎_elim}
 use Rattle.zr_io.specs.declared.purse.Purse.{Purse}
 use Rattle.zr_game.specs.Forms.{IsPlayer}
+use Rattle.zr_game.specs.Named.{NamedOf}
 use Rattle.zr_game.specs.Players.{GameOf, PlayerOf}
 use Rattle.zr_game.specs.declared.kind.Kind.{Kind}
 use Rattle.zr_tree.specs.Trees.{TreeOf}
 use Rattle.zr_best.specs.Works.{HasMoreBestWork, SpendsBestWork, all_units}
+use Rattle.zr_branch.specs.Replies.{CountsPivotsAlone}
 use Rattle.zr_comp.specs.Causes.{SpendsCases}
 use Rattle.zr_comp.specs.OpenCases.{case_units}
+use Rattle.zr_refute.specs.Covered.{covered}
+use Rattle.zr_system.specs.Regions.{LeavesOf}
 use Rattle.zr_decide.specs.declared.stop.DecideStop.{DecideStop}
 use Rattle.zr_decide.specs.declared.stop.DecideStop.TheVariants as AStop
 use Rattle.zr_decide.specs.Causes.{IsDecideCause}
 use Rattle.zr_decide.specs.Coverings.{IsCoverStop}
-use Rattle.zr_decide.specs.Decided.{AreSmallCovers, AreDecidedCovers, decided_leaves}
+use Rattle.zr_decide.specs.Decided.{AreDecidedCovers}
+use Rattle.zr_decide.specs.NamedCovers.{AreNamedCovers}
 use Rattle.zr_decide.specs.Later.{IsBoundsStop, IsLaterCause, IsSearchStop, IsSizeStop, LaterWork, SpendsLaterWork}
 use Rattle.zr_decide.specs.Works.{AreCaseUnits, DecideWork, HasMoreDecideWork, SpendsDecideWork}
 use Rattle.zr_decide.proofs.Working.{all_work, loose, loose_open, loose_units, more_left, no_work}
@@ -153,48 +158,88 @@ module _ (game : GameOf) (kind : Kind) where
     pub size_cause : (stop : DecideStop) → IsSizeStop game trees stop
         → IsLaterCause game kind old new stop
     size_cause AStop.Spent h = absurd h
-    size_cause (AStop.Wide asked) h = absurd h
+    size_cause (AStop.Wide asked) h = inl h
     size_cause (AStop.Step wide) h = absurd h
     size_cause (AStop.Endless k var dir named) h = absurd h
     size_cause (AStop.TooLarge cells) h = (trees, decided, h.0, h.1)
     size_cause AStop.NoMemory h = tt
 
-  module _ (trees : List TreeOf) (small : AreSmallCovers game trees) (old new : Purse) where
+  -- what is named counts pivots alone
+  pub naming_spends : (old new : Purse) → CountsPivotsAlone old new
+      → SpendsLaterWork game kind old new
+  naming_spends old new p = record {
+    limit = p.limit;
+    cuts = p.cuts;
+    pivots = p.pivots;
+    branches = (let b = p.branches in omega (arith, b));
+    work = no_bounds 0 (inl refl);
+    units_are = (let b = p.branches in omega (arith, b));
+  }
+
+  pub after_naming : (leaves : LeavesOf) (old mid new : Purse) → CountsPivotsAlone old mid
+      → SpendsCases game leaves kind mid new → SpendsCases game leaves kind old new
+  after_naming leaves old mid new p s = record {
+    limit = s.limit ∙ p.limit;
+    cuts = s.cuts ∙ p.cuts;
+    pivots = (let a = p.pivots in let b = s.pivots in omega (arith, a, b));
+    branches = (let a = p.branches in let b = s.branches in omega (arith, a, b));
+    work = s.work;
+    units_are = (let a = p.branches in let b = s.units_are in omega (arith, a, b));
+  }
+
+  pub stop_after_naming : (leaves : LeavesOf) (old mid new : Purse) → CountsPivotsAlone old mid
+      → (stop : DecideStop) → IsSearchStop game leaves kind mid new stop
+      → IsSearchStop game leaves kind old new stop
+  stop_after_naming leaves old mid new p AStop.Spent h =
+      let m = h.1.1 in
+      let l = p.limit in
+      let b = p.branches in
+      let c = p.cuts in
+      (h.0, (h.1.0, omega (arith, m, l, b, c)))
+  stop_after_naming leaves old mid new p (AStop.Wide asked) h = h
+  stop_after_naming leaves old mid new p (AStop.Step wide) h = h
+  stop_after_naming leaves old mid new p (AStop.Endless k var dir named) h = h
+  stop_after_naming leaves old mid new p (AStop.TooLarge cells) h = h
+  stop_after_naming leaves old mid new p AStop.NoMemory h = h
+
+  module _ (trees : List TreeOf) (named : List (List NamedOf))
+      (over : AreNamedCovers game trees named) (old new : Purse) where
     pub search_cause : (stop : DecideStop)
-        → IsSearchStop game (decided_leaves game trees) kind old new stop
+        → IsSearchStop game (covered game trees named) kind old new stop
         → IsLaterCause game kind old new stop
     search_cause AStop.Spent h =
         let z = loose_units game in
         let m = h.1.1 in (
           h.0,
           (
-            no_bounds (case_units (decided_leaves game trees) h.1.0.tree)
-                (inr (trees, small, h.1.0, refl)),
+            no_bounds (case_units (covered game trees named) h.1.0.tree)
+                (inr (trees, named, over, h.1.0, refl)),
             omega (arith, z, m),
           ),
         )
-    search_cause (AStop.Wide asked) h = inr (inl (trees, small, h))
+    search_cause (AStop.Wide asked) h = inr (inl (trees, named, over, h))
     search_cause (AStop.Step wide) h = absurd h
     search_cause (AStop.Endless k var dir named) h = absurd h
     search_cause (AStop.TooLarge cells) h = absurd h
     search_cause AStop.NoMemory h = tt
 
-    pub search_spends : SpendsCases game (decided_leaves game trees) kind old new
+    pub search_spends : SpendsCases game (covered game trees named) kind old new
         → SpendsLaterWork game kind old new
     search_spends h = record {
       limit = h.limit;
       cuts = h.cuts;
       pivots = h.pivots;
       branches = h.branches;
-      work = no_bounds (case_units (decided_leaves game trees) h.work.tree)
-          (inr (trees, small, h.work, refl));
+      work = no_bounds (case_units (covered game trees named) h.work.tree)
+          (inr (trees, named, over, h.work, refl));
       units_are = (let z = loose_units game in let u = h.units_are in omega (arith, z, u));
     }
 
   -- ---- bounds
 
-  module _ (trees : List TreeOf) (small : AreSmallCovers game trees) (old mid new : Purse)
-      (a : SpendsCases game (decided_leaves game trees) kind old mid) where
+  module _ (trees : List TreeOf) (named : List (List NamedOf))
+      (over : AreNamedCovers game trees named) (old mid new : Purse)
+      (a : SpendsCases game (covered game trees named) kind old mid) where
     pub with_bounds : SpendsBestWork game mid new → SpendsLaterWork game kind old new
     with_bounds b = record {
       limit = b.limit ∙ a.limit;
@@ -202,8 +247,8 @@ module _ (game : GameOf) (kind : Kind) where
       pivots = (let p = a.pivots in let q = b.pivots in omega (arith, p, q));
       branches = (let p = a.branches in let q = b.branches in omega (arith, p, q));
       work = record {
-        cases = case_units (decided_leaves game trees) a.work.tree;
-        cases_are = inr (trees, small, a.work, refl);
+        cases = case_units (covered game trees named) a.work.tree;
+        cases_are = inr (trees, named, over, a.work, refl);
         bounds = b.trees;
         bounds_are = b.open_are;
       };
@@ -218,13 +263,13 @@ module _ (game : GameOf) (kind : Kind) where
         let u = a.units_are in
         let m = h.1.2 in
         let work : LaterWork game kind = record {
-          cases = case_units (decided_leaves game trees) a.work.tree;
-          cases_are = inr (trees, small, a.work, refl);
+          cases = case_units (covered game trees named) a.work.tree;
+          cases_are = inr (trees, named, over, a.work, refl);
           bounds = h.1.0;
           bounds_are = h.1.1;
         } in
         (h.0, (work, omega (arith, m, l, c, u)))
-    bounds_cause (AStop.Wide asked) h = inr (inr h)
+    bounds_cause (AStop.Wide asked) h = ⊎_elim (λ a. inl a) (λ b. inr (inr b)) h
     bounds_cause (AStop.Step wide) h = h
     bounds_cause (AStop.Endless k var dir named) h = inr h
     bounds_cause (AStop.TooLarge cells) h = absurd h

@@ -21,6 +21,7 @@ use Rattle.zr_cover.specs.Covers.{HasNoLoose, IsExactCoverOf}
 use Rattle.zr_decide.specs.declared.covers.WholeRay.{WholeRay}
 use Rattle.zr_decide.specs.Coverings.{AreCoversTo, HasPointForm, IsCoverOf, IsFirstOpen, IsOpenCover, ShowsEmpty}
 use Rattle.zr_decide.specs.Decided.{IsDecidedCover, IsDrawnWholeRay}
+use Rattle.zr_decide.proofs.DrawnCerts.{drawn_cover}
 use Rattle.zr_decide.proofs.CoverNodes.{cover_nodes, empty_nodes, refuted_tree}
 use Rattle.zr_decide.proofs.Lists.{get_front, get_last, get_old, pushed}
 use Rattle.zr_decide.proofs.Working.{more_work, no_work}
@@ -194,6 +195,7 @@ shows_empty game i player is nodes found made none few = record {
   player = player;
   is_player = is;
   shown = record { tree = made.tree; listed = made.listed; refuted = refuted };
+  drawn = drawn_cover player made.tree nodes made.listed made.made;
   form = record {
     whole = made.form.whole;
     each = empty_nodes nodes made.form.each none;

@@ -1,6 +1,5 @@
 -- Leaves of exact covers, and certificates of the equilibria that are drawn over them.
-use Rattle.std.proofs.Common.{◌≡◌, ℕ, zero, suc, ◌+◌, ◌*◌, ◌<◌, ◌≤◌, arith, refl, sym, subst, ◌∙◌, true, All, List, [], ◌∷◌, length, map, get_or}
-use Rattle.std.specs.Global.{Vec}
+use Rattle.std.proofs.Common.{◌≡◌, ℕ, zero, suc, ◌+◌, ◌*◌, ◌<◌, ◌≤◌, arith, refl, sym, ap, subst, ◌∙◌, true, All, List, [], ◌∷◌, length, get_or}
 use Rattle.std.proofs.lemmas.List.{length-map}
 use Rattle.std.proofs.lemmas.List.Elements.{All-append, All-cons, All-head, All-map, All-nil, All-tail}
 use Rattle.zr_io.specs.declared.purse.Purse.{Purse}
@@ -9,18 +8,15 @@ use Rattle.zr_game.specs.Leaves.{LeafOf, root_leaf}
 use Rattle.zr_game.specs.Players.{GameOf, PlayerOf}
 use Rattle.zr_game.specs.declared.kind.Kind.{Kind}
 use Rattle.zr_game.specs.declared.leaf.Side.TheVariants.{VarZero, RowZero}
-use Rattle.zr_game.specs.declared.named.Named.{Named}
 use Rattle.zr_tree.specs.Covers.{CoverLeaf, cover_leaves, high_child, low_child, side_child}
-use Rattle.zr_tree.specs.Trees.{TreeOf, Split, Choose, Proof, Known, Loose}
+use Rattle.zr_tree.specs.Nodes.{NodeOf}
+use Rattle.zr_tree.specs.Trees.{TreeOf, Split, Choose, Proof, Known, Loose, preorder}
 use Rattle.zr_best.specs.Best.{ArePlayed}
-use Rattle.zr_cert.specs.Certs.{BoundOf, MixtureOf, ProfileVerdict, named_list, profile_with}
+use Rattle.zr_cert.specs.Certs.{BoundOf, MixtureOf, ProfileVerdict, profile_with}
 use Rattle.zr_cert.specs.Forms.{IsVerdictForm}
 use Rattle.zr_cert.specs.Lines.{bound_lines, mixture_lines, sum_lines}
 use Rattle.zr_check.specs.Right.{IsRightProfile}
-use Rattle.zr_costs.specs.Causes.{IsCostCause}
 use Rattle.zr_costs.specs.Costs.{AreRightBounds, HaveFewNodes, node_count}
-use Rattle.zr_costs.specs.declared.stop.CostStop.{CostStop}
-use Rattle.zr_costs.specs.declared.stop.CostStop.TheVariants as ACost
 use Rattle.zr_cover.specs.Covers.{HasNoLoose}
 use Rattle.zr_draw.specs.Drawn.{IsDrawnProfile}
 use Rattle.zr_refute.specs.Covered.{region_with, regions_with}
@@ -28,10 +24,9 @@ use Rattle.zr_refute.proofs.CoveredLeaves.{are_covers}
 use Rattle.zr_system.specs.Covers.{AreCovers, AreExact}
 use Rattle.zr_system.specs.Regions.{LeavesOf, RegionOf, no_region}
 use Rattle.zr_base.specs.Points.{PointOf}
-use Rattle.zr_decide.specs.Decided.{no_names}
+use Rattle.zr_decide.specs.Answers.{HasNamedCovers}
 use Rattle.zr_decide.specs.Equilibria.{AreSettled, AreSettledLeaves, IsDrawn}
-use Rattle.zr_decide.specs.Later.{IsBoundsStop, stop_with}
-use Rattle.zr_decide.proofs.Refuting.{right_covers}
+use Rattle.zr_decide.proofs.Refuting.{covers_are_right}
 
 -- ---- exact leaves
 
@@ -65,11 +60,12 @@ exact_at (p ∷ ps) (t ∷ ts) h zero k l =
     (exact_leaves p (root_leaf p) t (h 0 t refl)) k no_region l
 exact_at (p ∷ ps) (t ∷ ts) h (suc i) k l = exact_at ps ts (λ j u e. h (suc j) u e) i k l
 
-module _ (game : GameOf) (leaves : LeavesOf) (s : AreSettledLeaves game leaves) where
+module _ (game : GameOf) (covers : List (List NodeOf)) (leaves : LeavesOf)
+    (s : AreSettledLeaves game covers leaves) where
   pub leaves_cover : IsGame game → AreCovers game leaves
   leaves_cover sound =
       subst (AreCovers game) (sym s.same)
-      (are_covers game sound s.trees (no_names game) (right_covers game s.trees s.covers.covers))
+      (are_covers game sound s.trees s.named (covers_are_right game s.trees s.named s.covers))
 
   pub leaves_exact : AreExact game leaves
   leaves_exact =
@@ -77,14 +73,18 @@ module _ (game : GameOf) (leaves : LeavesOf) (s : AreSettledLeaves game leaves) 
 
   module _ (kind : Kind) (x : PointOf) (mixtures : List MixtureOf)
       (drawn : IsDrawnProfile game leaves kind x mixtures) where
-    pub is_drawn : IsDrawn game kind mixtures
+    abbrev pub is_drawn : IsDrawn game kind mixtures
     is_drawn = record {
       trees = s.trees;
+      named = s.named;
       covers = s.covers;
       settled = s.settled;
       x = x;
       drawn = subst (λ (l : LeavesOf). IsDrawnProfile game l kind x mixtures) s.same drawn;
     }
+
+    pub has_covers : HasNamedCovers game
+    has_covers = (s.trees, s.named, s.covers)
 
     pub played : ArePlayed game mixtures
     played = record { forms = drawn.forms; totals = drawn.totals; valid = drawn.equilibrium.valid }
@@ -131,30 +131,8 @@ module _ (game : GameOf) (leaves : LeavesOf) (s : AreSettledLeaves game leaves) 
           bounds_few [] = omega arith
           bounds_few (b ∷ bs) = let r = bounds_few bs in omega (arith, r)
 
--- ---- the stop
-
-pub bounds_cause : (game : GameOf) (kind : Kind) (mixtures : List MixtureOf)
-    → IsDrawn game kind mixtures → (named : Vec (Vec Named))
-    → map named_list named.items ≡ no_names game → (old new : Purse) (stop : CostStop)
-    → IsCostCause game mixtures old new stop
-    → IsBoundsStop game kind old new (stop_with named stop)
-bounds_cause game kind mixtures drawn named names old new ACost.Spent h = h
-bounds_cause game kind mixtures drawn named names old new (ACost.Wide asked) h = record {
-  mixtures = mixtures;
-  drawn = drawn;
-  i = h.0;
-  player = h.1;
-  is_player = h.2;
-  stuck = h.3;
-}
-bounds_cause game kind mixtures drawn named names old new (ACost.Step wide) h =
-    (mixtures, drawn, h)
-bounds_cause game kind mixtures drawn named names old new (ACost.Endless i var dir) h = record {
-  names = names;
-  mixtures = mixtures;
-  drawn = drawn;
-  player = h.0;
-  is_player = h.1;
-  least_open = h.2;
-}
-bounds_cause game kind mixtures drawn named names old new ACost.NoMemory h = tt
+  -- the tree of each cover
+  pub covers_count : length covers ≡ length game
+  covers_count =
+      ap (λ (xs : List (List NodeOf)). length xs) (sym s.listed)
+      ∙ length-map s.trees preorder ∙ s.covers.small.covers.len

@@ -1,5 +1,8 @@
 mod Lists
+mod Naming
+mod Rooms
 mod Working
+mod DrawnCerts
 mod CoverNodes
 mod Covering
 mod Causing
@@ -7,3 +10,5 @@ mod Refuting
 mod Rights
 mod Deciding
 mod Drawing
+mod Loosening
+mod Bounded

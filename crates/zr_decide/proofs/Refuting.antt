@@ -2,10 +2,10 @@
 use Rattle.std.proofs.Common.{◌≡◌, ℕ, zero, suc, ◌+◌, ◌*◌, ◌<◌, ◌≤◌, arith, refl, sym, ap, ap₂, subst, ◌∙◌, Option, All, List, [], ◌∷◌, ◌++◌, length, map, get_or, ⊎_elim}
 use Rattle.std.specs.Global.{Vec}
 use Rattle.std.proofs.lemmas.List.{length-map}
+use Rattle.std.proofs.lemmas.Option.{slice_get_within}
 use Rattle.std.proofs.lemmas.List.Elements.{All-append, All-cons, All-head, All-nil, All-tail}
-use Rattle.zr_game.specs.Forms.{IsPlayer}
 use Rattle.zr_game.specs.Leaves.{root_leaf}
-use Rattle.zr_game.specs.Named.{IsNamed, NamedOf}
+use Rattle.zr_game.specs.Named.{NamedOf}
 use Rattle.zr_game.specs.Players.{GameOf, PlayerOf}
 use Rattle.zr_game.specs.declared.choice.Choice.{Choice}
 use Rattle.zr_game.specs.declared.choice.Choice.TheVariants as AChoice
@@ -25,14 +25,16 @@ use Rattle.zr_refute.specs.Covered.{AreRightCovers, covered}
 use Rattle.zr_refute.specs.Refuting.{EndRule, RefutesBy, RefutesUnder, leaf_counts, then_choice}
 use Rattle.zr_refute.proofs.Walking.{count_is}
 use Rattle.zr_cert.specs.Certs.{named_list, nodes_of}
-use Rattle.zr_cert.specs.Forms.{AreNamed, IsCoverForm, IsNamedForm, leaf_count}
+use Rattle.zr_cert.specs.Forms.{IsCoverForm, leaf_count}
 use Rattle.zr_cert.specs.Lines.{named_lines, sum_lines, tree_lines}
 use Rattle.zr_check.specs.Right.{IsRightCover}
 use Rattle.zr_check.proofs.CoverTrees.{counts_are}
 use Rattle.zr_decide.specs.declared.covers.WholeRay.{WholeRay}
 use Rattle.zr_decide.specs.Coverings.{AreCoversTo}
 use Rattle.zr_decide.specs.Decided.{AreDecidedCovers, IsDecidedCover, decided_leaves, no_names}
+use Rattle.zr_decide.specs.NamedCovers.{AreItemsOver, AreNamedCovers, IsFull}
 use Rattle.zr_decide.proofs.Lists.{all_below}
+use Rattle.zr_decide.proofs.Naming.{names_few, names_formed, names_right}
 
 -- ---- nothing is named
 
@@ -57,18 +59,6 @@ pub same_leaves : (game : GameOf) (trees : List TreeOf) (lists : List (Vec Named
     → leaves ≡ covered game trees (map named_list lists) → leaves ≡ decided_leaves game trees
 same_leaves game trees lists n e leaves h =
     h ∙ ap (λ (xs : List (List NamedOf)). covered game trees xs) (names_are game lists n e)
-
-names_count : (game : GameOf) → length (no_names game) ≡ length game
-names_count game = length-map game (λ p. [])
-
-names_formed : (game : GameOf) → All AreNamed (no_names game)
-names_formed [] = All-nil AreNamed
-names_formed (p ∷ ps) =
-    All-cons AreNamed [] (no_names ps) (All-nil IsNamedForm) (names_formed ps)
-
-names_few : (game : GameOf) → sum_lines named_lines (no_names game) ≡ length game
-names_few [] = refl
-names_few (p ∷ ps) = let r = names_few ps in omega (arith, r)
 
 -- ---- the choices of a refutation name players
 
@@ -110,36 +100,35 @@ covers_tree player t h =
     ⊎_elim (λ s. s.0.cover)
     (λ s. subst (λ (u : TreeOf). IsCoverTree player (root_leaf player) u) (sym s.0) tt) h
 
-pub right_covers : (game : GameOf) (trees : List TreeOf) → AreDecidedCovers game trees
-    → AreRightCovers game trees (no_names game)
-right_covers game trees d = record {
+pub right_covers : (full : Type 0) (game : GameOf) (trees : List TreeOf)
+    (named : List (List NamedOf)) → AreDecidedCovers game trees
+    → AreItemsOver full game trees named → AreRightCovers game trees named
+right_covers full game trees named d items = record {
   covers = λ i player is.
       let n = d.len in
-      let w = slice_below game i player is in
+      let w = slice_get_within game i player is in
       let t = at_number trees i (omega (arith, n, w)) in
       (t.0, t.1, covers_tree player t.0 (d.each i player t.0 is t.1));
-  named_items = λ i player is.
-      subst (All (IsNamed player)) (sym (no_names_at game i)) (All-nil (IsNamed player));
+  named_items = λ i player is. names_right full game trees named d items i player is;
 }
-  where
-    slice_below : (game : GameOf) (i : ℕ) (player : PlayerOf) → IsPlayer game i player
-        → i < length game
-    slice_below [] i player is = absurd cc
-    slice_below (p ∷ ps) zero player is = omega arith
-    slice_below (p ∷ ps) (suc i) player is =
-        let r = slice_below ps i player is in omega (arith, r)
+
+pub covers_are_right : (game : GameOf) (trees : List TreeOf) (named : List (List NamedOf))
+    → AreNamedCovers game trees named → AreRightCovers game trees named
+covers_are_right game trees named over =
+    right_covers (IsFull game (covered game trees named)) game trees named over.small.covers
+    over.items
 
 module _ (game : GameOf) (kind : Kind) (covers : List Tree) (ray : Option WholeRay)
-    (c : AreCoversTo game (length game) covers ray) (named : List (Vec Named))
-    (none : map named_list named ≡ no_names game) (nodes : List RNodeOf) (form : AreCases nodes)
-    (t : CasesOf) (listed : case_preorder (leaf_counts (decided_leaves game c.trees)) t ≡ nodes)
-    (refutes : RefutesUnder game (decided_leaves game c.trees) kind [] t) where
+    (c : AreCoversTo game (length game) covers ray) (named : List (List NamedOf))
+    (over : AreNamedCovers game c.trees named) (nodes : List RNodeOf) (form : AreCases nodes)
+    (t : CasesOf) (listed : case_preorder (leaf_counts (covered game c.trees named)) t ≡ nodes)
+    (refutes : RefutesUnder game (covered game c.trees named) kind [] t) where
   abbrev leaves : LeavesOf
-  leaves = decided_leaves game c.trees
+  leaves = covered game c.trees named
 
   counted : leaf_counts leaves ≡ map leaf_count (map nodes_of covers)
   counted =
-      counts_are game c.trees (no_names game) c.len
+      counts_are game c.trees named c.len
       ∙ ap (λ (xs : List (List NodeOf)). map leaf_count xs) c.listed
 
   count : length (map nodes_of covers) ≡ length game
@@ -156,35 +145,36 @@ module _ (game : GameOf) (kind : Kind) (covers : List Tree) (ray : Option WholeR
         (subst (All (IsAmong (length game))) listed (among _ game leaves kind [] t refutes));
   }
 
-  pub cover_form : IsCoverForm (length game) (map nodes_of covers) (map named_list named) nodes
+  abbrev full : Type 0
+  full = IsFull game (covered game c.trees named)
+
+  pub cover_form : IsCoverForm (length game) (map nodes_of covers) named nodes
   cover_form = record {
     cover_count = count;
     cover_forms = c.forms;
-    named_count = ap (λ (xs : List (List NamedOf)). length xs) none ∙ names_count game;
-    named_forms = subst (All AreNamed) (sym none) (names_formed game);
+    named_count = over.items.len;
+    named_forms = names_formed full game c.trees named over.small.covers over.items;
     cases = form;
     whole = whole;
   }
 
-  pub cover_right : IsRightCover game kind (map nodes_of covers) (map named_list named) nodes
-  cover_right =
-      subst (λ (xs : List (List NamedOf)). IsRightCover game kind (map nodes_of covers) xs nodes)
-      (sym none) record {
-        trees = c.trees;
-        listed = c.listed;
-        cases = t;
-        cases_listed = listed;
-        shows = record {
-          covers = right_covers game c.trees (decided_covers game covers ray c);
-          refutes = refutes;
-        };
-      }
+  pub cover_right : IsRightCover game kind (map nodes_of covers) named nodes
+  cover_right = record {
+    trees = c.trees;
+    listed = c.listed;
+    cases = t;
+    cases_listed = listed;
+    shows = record {
+      covers = covers_are_right game c.trees named over;
+      refutes = refutes;
+    };
+  }
 
   pub cover_few : (branches units : ℕ)
       → sum_lines tree_lines (map nodes_of covers) ≤ length game + 2 * branches
       → length nodes ≤ 1 + 2 * units → branches + units ≤ 1000000000 → length game ≤ 16
       → sum_lines tree_lines (map nodes_of covers)
-      + (sum_lines named_lines (map named_list named) + length nodes) < 4294967292
+      + (sum_lines named_lines named + length nodes) < 4294967292
   cover_few branches units a b limit few =
-      let e = ap (sum_lines named_lines) none ∙ names_few game in
+      let e = names_few full game c.trees named over.small.covers over.items in
       omega (arith, a, b, limit, few, e)

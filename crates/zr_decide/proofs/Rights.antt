@@ -1,24 +1,30 @@
 -- Certificates that are right, and leaves that are few.
-use Rattle.std.proofs.Common.{◌≡◌, ℕ, zero, suc, ◌≤◌, arith, refl, sym, ap, subst, List, [], ◌∷◌, length, map, get_or}
+use Rattle.std.proofs.Common.{◌≡◌, ℕ, zero, suc, ◌≤◌, arith, refl, sym, ap, subst, List, [], ◌∷◌, length, map, get_or, inl, inr}
 use Rattle.zr_io.specs.declared.purse.Purse.{Purse}
+use Rattle.zr_io.specs.Purses.{StartsAt}
 use Rattle.zr_game.specs.Forms.{IsGame}
 use Rattle.zr_game.specs.Leaves.{Bound}
+use Rattle.zr_game.specs.Named.{NamedOf}
 use Rattle.zr_game.specs.Players.{GameOf, PlayerOf}
 use Rattle.zr_game.specs.declared.kind.Kind.{Kind}
 use Rattle.zr_tree.specs.Trees.{TreeOf}
 use Rattle.zr_cases.specs.declared.box_tree.BoxTree.{BoxTree}
 use Rattle.zr_box_search.specs.declared.answer.BoxAnswer.TheVariants.{Refuted}
 use Rattle.zr_box_search.specs.Answers.{IsBoxAnswer}
+use Rattle.zr_box_search.specs.Causes.{IsBoxCause}
+use Rattle.zr_box_search.specs.declared.answer.BoxStop.{BoxStop}
+use Rattle.zr_box_search.specs.declared.answer.BoxStop.TheVariants.{Spent, Wide}
+use Rattle.zr_asked.specs.declared.question.AskedLp.{AskedLp}
 use Rattle.zr_cert.specs.declared.cert.Cert.{Cert}
 use Rattle.zr_cert.specs.Certs.{CertOf, VerdictOf, boxes_of}
 use Rattle.zr_cert.specs.Listed.{cert_of}
 use Rattle.zr_check.specs.Boxes.{AreRightBoxes}
 use Rattle.zr_check.specs.Right.{IsRightCert, IsRightVerdict}
+use Rattle.zr_decide.specs.Answers.{MayLackBoxes}
 use Rattle.zr_comp.specs.Cases.{AreFewSlots}
 use Rattle.zr_comp.proofs.Few.{few_slots}
-use Rattle.zr_system.specs.Regions.{LeavesOf, named_at}
-use Rattle.zr_decide.specs.Decided.{decided_leaves}
-use Rattle.zr_decide.proofs.Refuting.{no_names_at}
+use Rattle.zr_refute.specs.Covered.{covered}
+use Rattle.zr_system.specs.Regions.{LeavesOf}
 
 pub right_cert : (game : GameOf) (kind : Kind) (cert : Cert) (v : VerdictOf)
     → cert_of cert ≡ record { kind = kind; players = length game; verdict = v }
@@ -43,6 +49,21 @@ few_boxes game old new tree h none limit =
     let b = h.2.branches in
     omega (arith, l, f, b, none, limit)
 
+pub none_if_spent : (game : GameOf) (limit : ℕ) (old new : Purse) → StartsAt old limit
+    → (stop : BoxStop) → stop ≡ Spent → IsBoxCause game old new stop → MayLackBoxes game limit
+none_if_spent game limit old new start stop is h =
+    let c = subst (IsBoxCause game old new) is h in
+    let m = c.1.1 in
+    let b = start.1 in
+    let k = start.2 in
+    let l = start.3 in
+    inr (inr (inl (c.1.0, omega (arith, m, b, k, l))))
+
+pub none_if_wide : (game : GameOf) (limit : ℕ) (old new : Purse) (asked : AskedLp)
+    (stop : BoxStop) → stop ≡ Wide asked → IsBoxCause game old new stop → MayLackBoxes game limit
+none_if_wide game limit old new asked stop is h =
+    inr (inr (inr (asked, subst (IsBoxCause game old new) is h)))
+
 -- ---- leaves of decided covers
 
 abbrev no_bounds : List Bound
@@ -54,15 +75,11 @@ no_cuts [] i = refl
 no_cuts (q ∷ qs) zero = refl
 no_cuts (q ∷ qs) (suc i) = no_cuts qs i
 
-module _ (game : GameOf) (trees : List TreeOf) (leaves : LeavesOf)
-    (same : leaves ≡ decided_leaves game trees) where
+module _ (game : GameOf) (trees : List TreeOf) (named : List (List NamedOf)) (leaves : LeavesOf)
+    (same : leaves ≡ covered game trees named) where
   pub have_few_slots : IsGame game → AreFewSlots game leaves
   have_few_slots sound =
       subst (AreFewSlots game) (sym same)
-      (few_slots game sound (decided_leaves game trees)
+      (few_slots game sound (covered game trees named)
       (λ i h. let e = ap (λ (bs : List Bound). length bs) (no_cuts game i) in
       omega (arith, e)))
-
-  pub name_nothing : (i : ℕ) → named_at leaves i ≡ []
-  name_nothing i =
-      subst (λ (l : LeavesOf). named_at l i ≡ []) (sym same) (no_names_at game i)

@@ -16,6 +16,7 @@ use Rattle.zr_cert.specs.Certs.{nodes_of}
 use Rattle.zr_cert.specs.Forms.{IsCoverNode, IsEmptyNode, IsTreeWith}
 use Rattle.zr_cert.specs.Lines.{sum_lines, tree_lines}
 use Rattle.zr_check.specs.Right.{IsEmptyTree}
+use Rattle.zr_costs.specs.Drawn.{IsDrawnTree}
 use Rattle.zr_cover.specs.Covers.{HasNoLoose}
 use Rattle.zr_decide.specs.declared.covers.WholeRay.{WholeRay}
 use Rattle.zr_decide.specs.declared.covers.Covering.{Covering}
@@ -84,11 +85,12 @@ pub record AreCoversTo (game : GameOf) (n : ℕ) (covers : List Tree) (ray : Opt
   pub forms : All (IsTreeWith IsCoverNode) (map nodes_of covers)
   pub open_is : IsFirstOpen game trees ray
 
--- the nodes show that the player has no point
+-- the nodes show that the player has no point, by an open tree that is drawn from questions
 pub record ShowsEmpty (game : GameOf) (i : ℕ) (nodes : List NodeOf) : Type 0 where
   pub player : PlayerOf
   pub is_player : IsPlayer game i player
   pub shown : IsEmptyTree player nodes
+  pub drawn : IsDrawnTree player (IsPlainAim player) nodes
   pub form : IsTreeWith IsEmptyNode nodes
   pub few : length nodes ≤ 2000000001
 

@@ -49,7 +49,7 @@ pub record AreDecidedCovers (game : GameOf) (trees : List TreeOf) : Type 0 where
 abbrev pub no_names : GameOf → List (List NamedOf)
 no_names game = map (λ player. []) game
 
--- the leaves of the covers
+-- the leaves of the covers, with nothing named
 abbrev pub decided_leaves : GameOf → List TreeOf → LeavesOf
 decided_leaves game trees = covered game trees (no_names game)
 

@@ -1,8 +1,12 @@
 -- What may become of a game once each player has a decided cover.
-use Rattle.std.specs.Prelude.{◌≡◌, ℕ, ◌+◌, ◌^◌, ◌<◌, ◌≤◌, List, min, map, ◌-◌, ◌⊎◌}
+use Rattle.std.specs.Prelude.{◌≡◌, ℕ, ◌+◌, ◌^◌, ◌<◌, ◌≤◌, Option, Some, None, List, min, map, ◌-◌, ◌⊎◌}
+use Rattle.std.specs.Global.{Vec}
 use Rattle.zr_io.specs.declared.purse.Purse.{Purse}
 use Rattle.zr_io.specs.Purses.{counted}
 use Rattle.zr_game.specs.Players.{GameOf}
+use Rattle.zr_game.specs.declared.named.Named.{Named}
+use Rattle.zr_costs.specs.declared.stop.CostStop.{CostStop}
+use Rattle.zr_costs.specs.declared.stop.CostStop.TheVariants as ACost
 use Rattle.zr_game.specs.declared.kind.Kind.{Kind}
 use Rattle.zr_tree.specs.Trees.{TreeOf}
 use Rattle.zr_best.specs.Works.{all_units, AreOpenTrees, HasMoreBestWork}
@@ -15,10 +19,6 @@ use Rattle.zr_decide.specs.declared.stop.DecideStop.TheVariants as AStop
 use Rattle.zr_decide.specs.Causes.{IsOpenBySystem, IsStuckChoice, IsStuckCover, IsTooLarge}
 use Rattle.zr_decide.specs.Decided.{cell_limit, decided_leaves}
 use Rattle.zr_decide.specs.Works.{AreCaseUnits}
-use Rattle.std.specs.Global.{Vec}
-use Rattle.zr_game.specs.declared.named.Named.{Named}
-use Rattle.zr_costs.specs.declared.stop.CostStop.{CostStop}
-use Rattle.zr_costs.specs.declared.stop.CostStop.TheVariants as ACost
 use Rattle.zr_decide.specs.Equilibria.{IsOpenByClaim, IsStuckClaim, IsWideClaim}
 
 -- the work that is left then: that of cases, and that of the bounds
@@ -54,10 +54,10 @@ IsLaterCause game kind old new (AStop.Endless i var dir named) =
 IsLaterCause game kind old new (AStop.TooLarge cells) = IsTooLarge game cells
 IsLaterCause game kind old new AStop.NoMemory = Unit {0}
 
--- there are too many cells over the leaves of these covers
+-- there are too many cells over the leaves of these covers, or a question of what is named is stuck
 abbrev pub IsSizeStop : GameOf → List TreeOf → DecideStop → Type 0
 IsSizeStop game trees AStop.Spent = ⊥
-IsSizeStop game trees (AStop.Wide asked) = ⊥
+IsSizeStop game trees (AStop.Wide asked) = IsStuckCover game asked
 IsSizeStop game trees (AStop.Step wide) = ⊥
 IsSizeStop game trees (AStop.Endless i var dir named) = ⊥
 IsSizeStop game trees (AStop.TooLarge cells) =
@@ -80,7 +80,8 @@ IsSearchStop game leaves kind old new AStop.NoMemory = Unit {0}
 abbrev pub IsBoundsStop : GameOf → Kind → Purse → Purse → DecideStop → Type 0
 IsBoundsStop game kind old new AStop.Spent =
     (counted new ≡ new.limit) × HasMoreBestWork game old
-IsBoundsStop game kind old new (AStop.Wide asked) = IsStuckClaim game kind asked
+IsBoundsStop game kind old new (AStop.Wide asked) =
+    IsStuckCover game asked ⊎ IsStuckClaim game kind asked
 IsBoundsStop game kind old new (AStop.Step wide) = IsWideClaim game kind wide
 IsBoundsStop game kind old new (AStop.Endless i var dir named) =
     IsOpenByClaim game kind i var dir.items (map named_list named.items)
@@ -94,3 +95,11 @@ stop_with named (ACost.Wide asked) = AStop.Wide asked
 stop_with named (ACost.Step wide) = AStop.Step wide
 stop_with named (ACost.Endless i var dir) = AStop.Endless i var dir named
 stop_with named ACost.NoMemory = AStop.NoMemory
+
+-- the player of whom it is open what it pays at least
+abbrev pub open_player : CostStop → Option ℕ
+open_player ACost.Spent = None
+open_player (ACost.Wide asked) = None
+open_player (ACost.Step wide) = None
+open_player (ACost.Endless i var dir) = Some i
+open_player ACost.NoMemory = None

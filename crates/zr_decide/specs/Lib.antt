@@ -1,6 +1,10 @@
 pub mod Decided
+pub mod NamedCovers
+pub mod Answers
 pub mod Works
 pub mod Equilibria
+pub mod DrawnCerts
 pub mod Causes
 pub mod Coverings
 pub mod Later
+pub mod Naming

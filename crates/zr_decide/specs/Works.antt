@@ -2,20 +2,23 @@
 use Rattle.std.specs.Prelude.{◌≡◌, ℕ, ◌+◌, ◌<◌, ◌≤◌, List, ◌⊎◌}
 use Rattle.zr_io.specs.declared.purse.Purse.{Purse}
 use Rattle.zr_io.specs.Purses.{counted}
+use Rattle.zr_game.specs.Named.{NamedOf}
 use Rattle.zr_game.specs.Players.{GameOf}
 use Rattle.zr_game.specs.declared.kind.Kind.{Kind}
 use Rattle.zr_tree.specs.Trees.{TreeOf}
 use Rattle.zr_best.specs.Works.{AreOpenTrees, all_units}
 use Rattle.zr_comp.specs.OpenCases.{CaseWork, case_units}
-use Rattle.zr_decide.specs.Decided.{AreSmallCovers, decided_leaves}
+use Rattle.zr_works.specs.Most.{AreAllBounded, most_work}
+use Rattle.zr_refute.specs.Covered.{covered}
+use Rattle.zr_decide.specs.NamedCovers.{AreNamedCovers}
 
--- the units of an open tree of cases over the leaves of decided covers; or none
+-- the units of an open tree of cases over the leaves of named covers; or none
 abbrev pub AreCaseUnits : GameOf → Kind → ℕ → Type 0
 AreCaseUnits game kind n =
     (n ≡ 0)
-    ⊎ ((trees : List TreeOf) × AreSmallCovers game trees
-    × (work : CaseWork game (decided_leaves game trees) kind)
-    × (n ≡ case_units (decided_leaves game trees) work.tree))
+    ⊎ ((trees : List TreeOf) × (named : List (List NamedOf)) × AreNamedCovers game trees named
+    × (work : CaseWork game (covered game trees named) kind)
+    × (n ≡ case_units (covered game trees named) work.tree))
 
 -- open trees, one per player, for the covers; one of cases; and one per player for the bounds
 pub record DecideWork (game : GameOf) (kind : Kind) : Type 0 where
@@ -46,3 +49,7 @@ pub record SpendsDecideWork (game : GameOf) (kind : Kind) (old new : Purse) : Ty
   pub units : ℕ
   pub work : HasWork game kind units
   pub units_are : new.branches ≤ old.branches + units
+
+-- where all whole variables have both bounds, the purse had less left than the most work
+abbrev pub IsBelowMostWork : GameOf → Purse → Type 0
+IsBelowMostWork game purse = AreAllBounded game → purse.limit < counted purse + most_work game

@@ -146,7 +146,7 @@ fn read_point(node: &Node)
 }
 
 /// The cover that is one loose leaf.
-fn loose_tree(alloc: Global) -> Result<Tree, AllocError>
+pub(crate) fn loose_tree(alloc: Global) -> Result<Tree, AllocError>
     ensures { IfOk result (λ tree. nodes_of tree ≡ LooseNode ∷ []) }
 {
     let nodes = vec![in alloc; Node::Loose]?;

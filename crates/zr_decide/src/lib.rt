@@ -5,6 +5,7 @@ mod boxes;
 mod certificate;
 mod covers;
 mod decision;
+mod names;
 mod solution;
 mod stop;
 mod system;

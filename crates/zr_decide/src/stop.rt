@@ -13,8 +13,9 @@ pub enum DecideStop {
     Step(Wide),
     /// The direction, a ray of the player's relaxation, changes the whole variable `var`. The system
     /// over the leaves of the covers has a solution, so no refutation of it is right; or it is open
-    /// what the player pays at least against an equilibrium that was drawn. `named` has a list for
-    /// each player.
+    /// what the player pays at least against an equilibrium that was drawn. `named` has for each
+    /// player what is named of it: of those whose cover is one loose leaf, in the second case of this
+    /// player alone.
     Endless {
         player: u32,
         var: u32,

@@ -5,6 +5,7 @@ use std::test::Fail;
 use zr_base::Row;
 use zr_game::{CrossTerm, Game, Kind, Player, Var};
 use zr_io::Purse;
+use zr_report::{End, write_report};
 
 /// A player of one whole variable.
 #[derive(Clone, Copy)]
@@ -50,6 +51,18 @@ fn player(alloc: Global, single: &Single) -> Result<Player, Fail> {
     })
 }
 
+/// A game of these players.
+fn game_with(alloc: Global, singles: &[Single]) -> Result<Game, Fail> {
+    let mut players = Vec::new(alloc);
+    for single in singles {
+        players.push(player(alloc, single)?)?;
+    }
+    match Game::new(players) {
+        Ok(game) => Ok(game),
+        Err(_) => Err(Fail::from("no game")),
+    }
+}
+
 /// What is decided with so many units.
 fn decided(
     alloc: Global,
@@ -57,13 +70,7 @@ fn decided(
     kind: Kind,
     limit: u64,
 ) -> Result<&'static str, Fail> {
-    let mut players = Vec::new(alloc);
-    for single in singles {
-        players.push(player(alloc, single)?)?;
-    }
-    let Ok(game) = Game::new(players) else {
-        return Err(Fail::from("no game"));
-    };
+    let game = game_with(alloc, singles)?;
     if limit > 1000000000 {
         return Err(Fail::from("another limit"));
     }
@@ -76,7 +83,6 @@ fn decided(
             Verdict::NoneBoxes { .. } => "boxes",
         }),
         Err(DecideStop::Spent) => Ok("spent"),
-        Err(DecideStop::Endless { .. }) => Ok("endless"),
         Err(_) => Err(Fail::from("another stop")),
     }
 }
@@ -162,9 +168,9 @@ fn a_single_player_takes_its_best_point(rt: HostRuntime) -> Result<(), Fail> {
     Ok(())
 }
 
-/// A player that pays `-x`, where x has no upper bound.
+/// A player that pays `-x`, where x has no upper bound: a named ray refutes.
 #[test]
-fn a_player_without_end_stays_open(rt: HostRuntime) -> Result<(), Fail> {
+fn a_player_without_end_has_no_best_point(rt: HostRuntime) -> Result<(), Fail> {
     let endless = Single {
         up: None,
         rows: &[],
@@ -173,7 +179,83 @@ fn a_player_without_end_stays_open(rt: HostRuntime) -> Result<(), Fail> {
     };
     assert_eq!(rt;
         decided(rt.alloc(), &[endless], Kind::Mixed, 1000)?,
-        "endless"
+        "cover"
+    );
+    assert_eq!(rt; decided(rt.alloc(), &[endless], Kind::Pure, 1000)?, "cover");
+    Ok(())
+}
+
+/// The report of a decision that stops with 1,000 units.
+fn report(alloc: Global, singles: &[Single], kind: Kind) -> Result<Vec<u8>, Fail> {
+    let game = game_with(alloc, singles)?;
+    let mut purse = Purse::new(1000);
+    let end = match decide(alloc, &game, kind, &mut purse) {
+        Err(
+            DecideStop::Endless {
+                player,
+                var,
+                dir,
+                named,
+            },
+        ) => End::Open {
+            player,
+            var,
+            dir,
+            named,
+        },
+        Err(DecideStop::TooLarge { cells }) => End::Large { cells },
+        _ => return Err(Fail::from("another answer")),
+    };
+    match write_report(alloc, &end) {
+        Ok(text) => Ok(text),
+        Err(_) => Err(Fail::from("no memory")),
+    }
+}
+
+/// The first player pays `x - 2xy`, where x has no upper bound, and the second one `2xy - y`, where
+/// y is 0 or 1. Neither the start point nor the ray refutes that y is 1/2.
+#[test]
+fn a_loose_leaf_with_a_solution_stays_open(rt: HostRuntime) -> Result<(), Fail> {
+    let alloc = rt.alloc();
+    let singles = [
+        Single {
+            up: None,
+            rows: &[],
+            cost: 1,
+            cross: Some((1, -2)),
+        },
+        Single {
+            up: Some(1),
+            rows: &[],
+            cost: -1,
+            cross: Some((0, 2)),
+        },
+    ];
+    let text = b"zero-report/1\nstop open 0 0 1\nnamed 2\npoint 1 0\nray 1 0 1\nnamed 0\nend\n";
+    assert_eq!(rt;
+        report(alloc, &singles, Kind::Mixed)?.as_slice(),
+        text.as_slice()
+    );
+    assert_eq!(rt;
+        report(alloc, &singles, Kind::Pure)?.as_slice(),
+        text.as_slice()
+    );
+    Ok(())
+}
+
+/// A player with 801 points: 6,410 rows and 3,205 columns.
+#[test]
+fn too_many_points_are_too_large(rt: HostRuntime) -> Result<(), Fail> {
+    let many = Single {
+        up: Some(800),
+        rows: &[],
+        cost: 1,
+        cross: None,
+    };
+    let text = b"zero-report/1\nstop large 20544050\nend\n";
+    assert_eq!(rt;
+        report(rt.alloc(), &[many], Kind::Mixed)?.as_slice(),
+        text.as_slice()
     );
     Ok(())
 }

@@ -14,7 +14,9 @@ use Rattle.zr_text.specs.Spelling.{text_of}
 use Rattle.zr_decide.specs.declared.stop.DecideStop.{DecideStop}
 use Rattle.zr_decide.specs.declared.stop.DecideStop.TheVariants as ADecide
 use Rattle.zr_decide.specs.Causes.{IsDecideCause}
+use Rattle.zr_decide.specs.DrawnCerts.{IsDrawnCert}
 use Rattle.zr_decide.specs.Works.{SpendsDecideWork}
+use Rattle.zr_works.specs.Most.{IsBelowWork}
 use Rattle.zr_report.specs.declared.end.End.{End}
 use Rattle.zr_report.specs.declared.end.End.TheVariants as AnEnd
 use Rattle.zr_drive.specs.declared.stop.DriveStop.{DriveStop}
@@ -31,32 +33,35 @@ end_of limit (ADecide.TooLarge cells) = Ended (AnEnd.Large cells)
 end_of limit ADecide.NoMemory = NoMemory
 
 -- a decision by a new purse of this limit, which spends no more than there is work, may stop so
-abbrev pub IsDecided : GameOf → Kind → ℕ → DecideStop → Type 0
-IsDecided game kind limit stop =
+abbrev pub HasStopped : GameOf → Kind → ℕ → DecideStop → Type 0
+HasStopped game kind limit stop =
     (old new : Purse) × StartsAt old limit × SpendsDecideWork game kind old new
     × IsDecideCause game kind old new stop
 
--- the check of a right certificate of the kind is too wide at this line
+-- the check of a right and drawn certificate of the kind is too wide at this line
 abbrev pub IsTooWideCert : GameOf → Kind → ℕ → Cert → Type 0
 IsTooWideCert game kind line cert =
-    (cert.kind ≡ kind) × IsRightCert game (cert_of cert)
+    (cert.kind ≡ kind) × IsRightCert game (cert_of cert) × IsDrawnCert game (cert_of cert)
     × CertRefused game (cert_of cert) (AFault.Wide line)
 
--- the text of a right certificate of the kind, which passes its check, has so many bytes, too many
+-- the text of a right and drawn certificate of the kind, which passes its check, has so many bytes,
+-- too many
 abbrev pub IsLongText : GameOf → Kind → ℕ → Type 0
 IsLongText game kind bytes =
-    (c : CertOf) × (c.kind ≡ kind) × IsRightOf game c × (bytes ≡ length (text_of c))
-    × (text_limit < bytes)
+    (c : CertOf) × (c.kind ≡ kind) × IsRightOf game c × IsDrawnCert game c
+    × (bytes ≡ length (text_of c)) × (text_limit < bytes)
 
--- why the work came to this end: its decision stopped, or the certificate is too wide or too long
+-- why the work came to this end: its decision stopped, by its budget only below the most work where
+-- all whole variables have both bounds; or the certificate is too wide or too long
 abbrev pub IsEndOf : GameOf → Kind → ℕ → End → Type 0
-IsEndOf game kind limit (AnEnd.Budget n) = (n ≡ limit) × IsDecided game kind limit ADecide.Spent
-IsEndOf game kind limit (AnEnd.Stuck asked) = IsDecided game kind limit (ADecide.Wide asked)
-IsEndOf game kind limit (AnEnd.Step wide) = IsDecided game kind limit (ADecide.Step wide)
+IsEndOf game kind limit (AnEnd.Budget n) =
+    (n ≡ limit) × HasStopped game kind limit ADecide.Spent × IsBelowWork limit game
+IsEndOf game kind limit (AnEnd.Stuck asked) = HasStopped game kind limit (ADecide.Wide asked)
+IsEndOf game kind limit (AnEnd.Step wide) = HasStopped game kind limit (ADecide.Step wide)
 IsEndOf game kind limit (AnEnd.Certificate line cert) = IsTooWideCert game kind line cert
 IsEndOf game kind limit (AnEnd.Open i var dir named) =
-    IsDecided game kind limit (ADecide.Endless i var dir named)
-IsEndOf game kind limit (AnEnd.Large cells) = IsDecided game kind limit (ADecide.TooLarge cells)
+    HasStopped game kind limit (ADecide.Endless i var dir named)
+IsEndOf game kind limit (AnEnd.Large cells) = HasStopped game kind limit (ADecide.TooLarge cells)
 IsEndOf game kind limit (AnEnd.Long bytes) = IsLongText game kind bytes
 
 abbrev pub IsDriveCause : GameOf → Kind → ℕ → DriveStop → Type 0

@@ -2,8 +2,12 @@
 //! is none.
 #![tactic(auto)]
 
+mod laws;
 mod stop;
+#[cfg(test)]
+mod tests;
 mod verdict;
 
+pub use laws::law_of_wide_certificates;
 pub use stop::DriveStop;
 pub use verdict::drive;

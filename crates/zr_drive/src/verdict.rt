@@ -2,6 +2,7 @@ ghost use Rattle.std.specs.Prelude.{◌≡◌, ◌≤◌, IfErr, IfOk};
 ghost use Rattle.zr_game.specs.Games.{game_of};
 ghost use Rattle.zr_cert.specs.Listed.{cert_of};
 ghost use Rattle.zr_check.specs.Right.{IsRightCert};
+ghost use Rattle.zr_decide.specs.DrawnCerts.{IsDrawnCert};
 ghost use Rattle.zr_drive.specs.Ends.{IsDriveCause};
 ghost use Rattle.zr_drive.specs.Verdicts.{IsRightOf, IsVerdictText};
 
@@ -25,8 +26,9 @@ const TEXT_LIMIT: usize = 67_108_864;
 ///
 /// # Errors
 ///
-/// `Ended` where the decision stops, where the check of a right certificate is too wide at a line,
-/// and where its text is too long. `NoMemory` for want of memory.
+/// `Ended` where the decision stops, where the check of a right certificate, drawn from the bases of
+/// the game's questions, is too wide at a line, and where its text is too long. `NoMemory` for want
+/// of memory.
 pub fn drive(alloc: Global, game: &Game, kind: Kind, limit: u64) -> Result<Vec<u8>, DriveStop>
     requires limit { limit ≤ 1000000000 }
     ensures verdict { IfOk result (λ text. IsVerdictText (game_of game.now) kind text.items) }
@@ -42,6 +44,7 @@ pub fn drive(alloc: Global, game: &Game, kind: Kind, limit: u64) -> Result<Vec<u
 /// The text of a right certificate, once it has passed its check.
 fn checked(alloc: Global, game: &Game, cert: Cert) -> Result<Vec<u8>, DriveStop>
     requires right { IsRightCert (game_of game.now) (cert_of cert) }
+    requires drawn { IsDrawnCert (game_of game.now) (cert_of cert) }
     ensures verdict { IfOk result (λ text. IsVerdictText (game_of game.now) cert.kind text.items) }
     ensures cause { (limit : _) → IfErr result (IsDriveCause (game_of game.now) cert.kind limit) }
 {
@@ -59,6 +62,7 @@ fn checked(alloc: Global, game: &Game, cert: Cert) -> Result<Vec<u8>, DriveStop>
 /// The text of a certificate that passes its check.
 fn written(alloc: Global, game: &Game, cert: &Cert) -> Result<Vec<u8>, DriveStop>
     requires right { IsRightOf (game_of game.now) (cert_of cert.now) }
+    requires drawn { IsDrawnCert (game_of game.now) (cert_of cert.now) }
     ensures verdict { IfOk result (λ text.
         IsVerdictText (game_of game.now) cert.now.kind text.items) }
     ensures cause { (limit : _) → IfErr result (IsDriveCause (game_of game.now) cert.now.kind limit) }

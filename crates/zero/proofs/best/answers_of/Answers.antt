@@ -42,4 +42,4 @@ returns-in-Err-clause-err c = λ bytes is_text.
     let bounds = map bound_of c.in-Profile.bounds.items in
     let profile = profile_is game (cert_of c.args.cert.now) mixtures bounds c.requires.players (ap verdict_of c.in-Profile.is) c.requires.right c.requires.narrow bytes is_text in
     let starts = subst (StartsAt c.new-purse.result) c.from.ensures c.new-purse.ensures in
-    (mixtures, profile, c.ended.ensures.ends game mixtures c.new-purse.result c.best.new.purse starts c.in-Err.ensures.cause)
+    (mixtures, profile, c.ended.ensures.ends game c.args.game.now.sound mixtures c.new-purse.result c.best.new.purse starts c.in-Err.ensures.cause)

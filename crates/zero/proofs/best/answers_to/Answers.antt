@@ -3,10 +3,11 @@ use Rattle.zr_game.specs.Games.{game_of}
 use Rattle.zr_game.specs.Players.{GameOf}
 use Rattle.zr_follow.specs.Expansion.{expansion}
 use Rattle.zr_read.specs.Texts.{source_of}
-use Rattle.zero.specs.BestTexts.{IsBestText}
+use Rattle.zero.specs.BestTexts.{IsBestReply, IsBestText}
 use Rattle.zero.specs.Commands.{for_best}
 use Rattle.zero.specs.Refusals.{IsCause, IsStopped}
 use Rattle.zero.proofs.CauseLemmas.{if_err, if_ok, stopped_cause}
+use Rattle.zero.proofs.ReplyLemmas.{reply_of}
 use Rattle.zero.proofs.best.answers_to.Goals as goal
 
 pub returns-in_err-cert-clause-err : goal.returns-in_err-cert-clause-err
@@ -17,9 +18,11 @@ returns-in_err-cert-clause-err c = λ words contents asked.
 pub returns-in-Ok-check_profile-clause-ok : goal.returns-in-Ok-check_profile-clause-ok
 returns-in-Ok-check_profile-clause-ok c =
     let bytes = c.args.bytes.now in
+    let source = source_of c.args.reading.now.source in
     if_ok c.answers_of.result (λ text. IsBestText (game_of c.args.reading.now.game) bytes text.items)
-    (λ text. IsBestText (expansion (source_of c.args.reading.now.source)) bytes text.items)
-    (λ text h. subst (λ (g : GameOf). IsBestText g bytes text.items) c.requires.game h)
+    (λ text. IsBestReply source bytes text.items)
+    (λ text h. reply_of source c.args.reading.now.source.sound bytes text.items
+    (subst (λ (g : GameOf). IsBestText g bytes text.items) c.requires.game h))
     (c.answers_of.ensures.ok bytes c.in_ok-cert.ensures.ok)
 
 pub returns-in-Ok-check_profile-clause-err : goal.returns-in-Ok-check_profile-clause-err

@@ -2,7 +2,7 @@ use Rattle.std.proofs.Common.{rules, inl, inr}
 use Rattle.zr_read.specs.Texts.{source_of}
 use Rattle.zr_follow.specs.Expansion.{expansion}
 use Rattle.zero.specs.Commands.{for_best}
-use Rattle.zero.specs.BestTexts.{IsBestText}
+use Rattle.zero.specs.BestTexts.{IsBestReply}
 use Rattle.zero.specs.Answers.{IsAnswer, IsAskedCert}
 use Rattle.zero.proofs.CauseLemmas.{if_ok}
 use Rattle.zero.proofs.best.best.Goals as goal
@@ -28,5 +28,5 @@ returns-clause-ok g c = λ words asks.
     let bytes = c.as_slice.result.now in
     let h = c.in_ok-texts.ensures.asked words purpose asks in
     let asked : IsAskedCert words contents purpose source bytes = search (rules, h) in
-    if_ok c.answers_to.result (λ text. IsBestText (expansion source) bytes text.items) (λ text. IsAnswer words contents text.items)
+    if_ok c.answers_to.result (λ text. IsBestReply source bytes text.items) (λ text. IsAnswer words contents text.items)
     (λ text best. inr (inr (inl (record { budget = c.args.budget; source = source; bytes = bytes; asked = asked; best = best })))) c.answers_to.ensures.ok

@@ -1,4 +1,5 @@
 use Rattle.std.proofs.Common.{◌≡◌, ◌⊎◌, refl, sym, ◌∙◌, subst}
+use Rattle.zr_io.specs.Written.{AppendsPrefix}
 use Rattle.zr_words.specs.Words.{spelled}
 use Rattle.zero.specs.Answers.{HasBegun}
 use Rattle.zero.specs.Refusals.{IsEndStatus, line_of}
@@ -41,7 +42,10 @@ pub returns-in-Err-clause-ended : goal.returns-in-Err-clause-ended
 returns-in-Err-clause-ended g c = λ ends.
     let is = subst IsEndStatus c.status.ensures ends in
     let h = ended_of (spelled c.args.words.now) (g.S.Shelf.contents c.args.shelf.now) _ _ (g.O.Sink.written c.args.out.now) (g.O.Sink.written c.answer.new.out) c.in-Err.refusal c.in-Err.ensures.err c.in-Err.ensures.taken c.in-Err.ensures.reported is in
-    (h.0, h.1, c.status.ensures ∙ h.2, h.3, h.4, h.5)
+    let before = g.E.Sink.written c.args.err.now in
+    let after = g.E.Sink.written c.say.new.err in
+    let said = line_written before after (line_of c.in-Err.refusal) c.say.result c.say.ensures.ok c.say.ensures.err in
+    (h.0, h.1, c.status.ensures ∙ h.2, h.3, h.4, h.5, subst (λ line. AppendsPrefix before line after) h.6 said)
 
 pub returns-in-Err-clause-begun : goal.returns-in-Err-clause-begun
 returns-in-Err-clause-begun g c = λ other.

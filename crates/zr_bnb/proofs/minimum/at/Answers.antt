@@ -1,9 +1,10 @@
-use Rattle.std.proofs.Common.{rules, ◌≡◌, ◌∙◌, ap, ℤ, ◌*ℤ◌, map, FitsSigned}
+use Rattle.std.proofs.Common.{rules, ◌≡◌, ◌∙◌, ap, sym, subst, List, ℤ, ◌*ℤ◌, map, FitsSigned}
 use Rattle.std.specs.Int.{w128}
 use Rattle.std.proofs.lemmas.Int.{to_z-of_z}
 use Rattle.zr_game.specs.Players.{player_of}
+use Rattle.zr_bnb.specs.Found.{AreProved}
 use Rattle.zr_bnb.specs.Values.{scaled_aim}
-use Rattle.zr_bnb.proofs.Leasts.{at_answer, may_scaled, plans_scaled}
+use Rattle.zr_bnb.proofs.Leasts.{at_answer, may_scaled, plans_scaled, scaled_whole}
 use Rattle.zr_bnb.proofs.minimum.at.Goals as goal
 use Rattle.zr_bnb.proofs.minimum.at.Goals.{In-Ok}
 
@@ -22,6 +23,15 @@ prove-requires-clause-closed c =
     simp to_z-of_z (rw (c.deref.ensures.value, scaled_is at, c.num.ensures.value)
     (plans_scaled (player_of c.args.player.now) c.args.aim.now c.args.best.value c.args.plans.now
     c.requires.grown.1.closed))
+
+pub prove-requires-clause-kept : goal.prove-requires-clause-kept
+prove-requires-clause-kept c whole =
+    let at = (goal.at.prove-requires-clause-kept c).In-Ok in
+    let player = player_of c.args.player.now in
+    rw (c.deref.ensures.value, scaled_is at)
+    (subst (λ (a : List ℤ). AreProved player a c.args.plans.now)
+    (sym (scaled_whole c.args.aim.now c.args.best.value (c.is_whole.ensures whole)))
+    c.requires.grown.1.proved)
 
 pub returns-in-Err-clause-cause : goal.returns-in-Err-clause-cause
 returns-in-Err-clause-cause c old new =

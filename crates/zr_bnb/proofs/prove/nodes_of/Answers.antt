@@ -9,8 +9,8 @@ use Rattle.zr_tree.specs.Form.{IsNodeForm}
 use Rattle.zr_tree.specs.Nodes.{NodeOf, node_of}
 use Rattle.zr_branch.specs.Replies.{CountsPivotsAlone}
 use Rattle.zr_bnb.specs.declared.plan.Plan.{Plan}
-use Rattle.zr_bnb.specs.Found.{IsClosedPlan, IsPlanForm, proofs_for}
-use Rattle.zr_bnb.proofs.Proving.{closed_at, form_at, nodes_push}
+use Rattle.zr_bnb.specs.Found.{IsClosedPlan, IsPlanForm, IsProvedPlan, proofs_for}
+use Rattle.zr_bnb.proofs.Proving.{closed_at, form_at, nodes_push, proved_at}
 use Rattle.zr_bnb.proofs.prove.nodes_of.Goals as goal
 
 counts_on : (a b c : Purse) → CountsPivotsAlone a b → CountsPivotsAlone b c → CountsPivotsAlone a c
@@ -33,6 +33,13 @@ pub node_for-requires-clause-form : goal.node_for-requires-clause-form
 node_for-requires-clause-form c =
     subst IsPlanForm (sym c.plan-item.is) (form_at c.args.plans.now c.plans.plan-index c.plan-item.result
     c.plans-test.true c.requires.forms)
+
+pub node_for-requires-clause-kept : goal.node_for-requires-clause-kept
+node_for-requires-clause-kept c first =
+    let player = player_of c.args.player.now in
+    subst (IsProvedPlan player c.args.aim.now) (sym c.plan-item.is)
+    (proved_at player c.args.aim.now c.args.plans.now c.plans.plan-index c.plan-item.result
+    c.plans-test.true (c.requires.kept first))
 
 pub plans-preserved : goal.plans-preserved
 plans-preserved c =

@@ -115,11 +115,12 @@ branches-preserved-in-Ok-close c =
     let purse = c.in-Ok-Closed.ensures.purse in
     let fate = rw (c.in-Ok-Closed.field-0-is, c.deref.ensures.value, c.value_of.ensures) at
     (c.in-Ok-Closed.ensures.fate (spent at) (rw c.deref.ensures.value (growing at).due.0.2)) in
+    let ends = rw (c.in-Ok-Closed.field-0-is, c.deref.ensures.value) at c.in-Ok-Closed.ensures.ends in
     record {
       growing = rw (c.in-Ok-close.ensures, purse.branches)
           (close_one player aim (c.args.i, c.requires.some) c.branches.best c.branches.plans.items
           c.in-Some.path (pending c.take_next.new.due.items) (spent at) (growing at) c.branches.best
-          (same_better player aim _) (growing at).best_is fate);
+          c.in-Ok-Closed.end (same_better player aim _) (growing at).best_is fate ends);
       spends = search_on c.args.purse.now c.branches.purse c.visit.new.purse c.branches.invariant.spends purse;
       ends = c.branches.invariant.ends;
     }
@@ -136,12 +137,13 @@ branches-preserved-in-Ok-close-2 c =
     let purse = c.in-Ok-Improved.ensures.purse in
     let fate = rw (c.in-Ok-Improved.field-0-is, c.deref.ensures.value, c.value_of.ensures) at
     (c.in-Ok-Improved.ensures.fate (spent at) (rw c.deref.ensures.value (growing at).due.0.2)) in
+    let ends = rw (c.in-Ok-Improved.field-0-is, c.deref.ensures.value) at c.in-Ok-Improved.ensures.ends in
     let new : Best = record { point = c.in-Ok-Improved.point; value = c.in-Ok-Improved.value } in
     record {
       growing = rw (c.in-Ok-close-2.ensures, purse.branches)
           (close_one player aim (c.args.i, c.requires.some) c.branches.best c.branches.plans.items
           c.in-Some.path (pending c.take_next.new.due.items) (spent at) (growing at) (Some new)
-          (lower_better player aim c.branches.best c.in-Ok-Improved.value (growing at).best_is
+          c.in-Ok-Improved.end (lower_better player aim c.branches.best c.in-Ok-Improved.value (growing at).best_is
           fate.lowest.ratio.positive fate.no_higher)
           (record {
             feasible = fate.feasible;
@@ -154,7 +156,7 @@ branches-preserved-in-Ok-close-2 c =
               asked = inl refl;
               solution = fate.solution;
             };
-          }) fate.closed);
+          }) fate.closed ends);
       spends = search_on c.args.purse.now c.branches.purse c.visit.new.purse c.branches.invariant.spends purse;
       ends = c.branches.invariant.ends;
     }

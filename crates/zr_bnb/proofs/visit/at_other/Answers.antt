@@ -21,6 +21,10 @@ returns-in-None-clause-fate c aim best scale mult b no_higher more near =
       solution = b.solution;
     }
 
+pub returns-in-Some-clause-fate : goal.returns-in-Some-clause-fate
+returns-in-Some-clause-fate c aim best scale mult b no_higher more near =
+    ((c.args.point, b.meets), c.in-Some.ensures.split more near)
+
 pub returns-in-Some-clause-opens : goal.returns-in-Some-clause-opens
 returns-in-Some-clause-opens c aim scale mult b e root =
     let player = player_of c.args.player.now in

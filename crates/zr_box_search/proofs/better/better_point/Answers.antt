@@ -1,4 +1,4 @@
-use Rattle.std.proofs.Common.{◌≡◌, ◌∙◌, ap, length, pos, ◌<ℤ◌, ◌≤ℤ◌, IfErr, IfOk}
+use Rattle.std.proofs.Common.{◌≡◌, ◌∙◌, ap, length, pos, ◌<ℤ◌, ◌≤ℤ◌}
 use Rattle.std.specs.Prelude.{MatchOption}
 use Rattle.std.proofs.lemmas.Result.{IfErr-weaker, IfOk-weaker}
 use Rattle.zr_base.specs.Fractions.{Fraction}

@@ -1,4 +1,4 @@
-use Rattle.std.proofs.Common.{◌≡◌, ◌<◌, ◌^◌, arith, refl, unsigned_abs, int_div, FitsSigned}
+use Rattle.std.proofs.Common.{◌<◌, ◌^◌, arith, unsigned_abs, int_div, FitsSigned}
 use Rattle.std.specs.Int.{w128}
 use Rattle.std.proofs.lemmas.Int.{fits_signed_from_abs, to_z-of_z}
 use Rattle.zr_box_search.proofs.Bounding.{quotient_up}

@@ -1,11 +1,10 @@
-use Rattle.std.proofs.Common.{◌≡◌, ◌<◌, ◌∙◌, arith, ap, sym, subst, length, Vec, List, ℕ}
+use Rattle.std.proofs.Common.{◌≡◌, ◌<◌, ◌∙◌, arith, ap, sym, subst, length, Vec, List}
 use Rattle.std.specs.declared.alloc.Global.{Global}
 use Rattle.std.proofs.lemmas.List.{length-map}
-use Rattle.zr_game.specs.declared.leaf.Leaf.{Leaf}
 use Rattle.zr_game.specs.Games.{game_of}
 use Rattle.zr_game.specs.Players.{PlayerOf, player_of}
 use Rattle.zr_game.specs.Forms.{IsPlayer}
-use Rattle.zr_game.specs.Leaves.{HasPoint, IsLeafOf, LeafOf, leaf_of}
+use Rattle.zr_game.specs.Leaves.{HasPoint, IsLeafOf, leaf_of}
 use Rattle.zr_game.proofs.Items.{found}
 use Rattle.zr_asked.specs.declared.question.Move.{Move}
 use Rattle.zr_asked.specs.Paths.{IsOpenPath, branch}
@@ -58,10 +57,12 @@ module _ (c : After-refutation-arg-1) where
 
 pub refutation-requires-clause-player : goal.refutation-requires-clause-player
 refutation-requires-clause-player c =
-    let at = (goal.at.refutation-requires-clause-player c).After-refutation-arg-1 in (
-      game_of c.args.game.now,
-      c.args.game.now.sound.players c.loop-i.i (player at) (is_player at),
-    )
+    is_player (goal.at.refutation-requires-clause-player c).After-refutation-arg-1
+
+pub refutation-requires-clause-whole : goal.refutation-requires-clause-whole
+refutation-requires-clause-whole c =
+    let at = (goal.at.refutation-requires-clause-whole c).After-refutation-arg-1 in
+    c.requires.whole c.loop-i.i (player at) (is_player at)
 
 pub refutation-requires-clause-path : goal.refutation-requires-clause-path
 refutation-requires-clause-path c =

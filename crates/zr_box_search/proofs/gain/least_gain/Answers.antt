@@ -1,4 +1,4 @@
-use Rattle.std.proofs.Common.{◌≡◌, ◌∙◌, ◌+ℤ◌, ap, ap₂, sym, add-one, pos, ℤ}
+use Rattle.std.proofs.Common.{◌∙◌, ◌+ℤ◌, ap, ap₂, sym, add-one, ℤ}
 use Rattle.zr_base.specs.Points.{num_of}
 use Rattle.zr_game.specs.Players.{player_of}
 use Rattle.zr_boxes.specs.Gains.{slope_range}

@@ -1,4 +1,4 @@
-use Rattle.std.proofs.Common.{◌≡◌, ◌+◌, ◌-◌, ◌<◌, arith, refl, sym, subst, ℕ, add-one, length, take}
+use Rattle.std.proofs.Common.{◌≡◌, ◌-◌, arith, refl, ℕ, add-one}
 use Rattle.std.proofs.lemmas.Option.{slice_get_within}
 use Rattle.zr_game.specs.Games.{game_of}
 use Rattle.zr_game.specs.Players.{PlayerOf, player_of}
@@ -6,8 +6,7 @@ use Rattle.zr_game.specs.Forms.{IsPlayer}
 use Rattle.zr_game.proofs.Items.{found}
 use Rattle.zr_bnb.proofs.Firsts.{all_found, more_found}
 use Rattle.zr_boxes.specs.Paths.{box_of}
-use Rattle.zr_box_search.specs.Fates.{HasNoBetter, SpendsUnits}
-use Rattle.zr_box_search.specs.OpenBoxes.{HaveUnits}
+use Rattle.zr_box_search.specs.Fates.{HasNoBetter}
 use Rattle.zr_box_search.proofs.Single.{is_equilibrium}
 use Rattle.zr_box_search.proofs.Spending.{spent_is, spent_nothing}
 use Rattle.zr_box_search.proofs.Units.{end_of_all, end_spends, end_with, reply_cause, spends_end, step_spends, units_step}

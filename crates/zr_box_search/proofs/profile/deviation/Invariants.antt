@@ -1,4 +1,4 @@
-use Rattle.std.proofs.Common.{ℕ, ◌<◌, ◌≤◌, ◌-◌, take}
+use Rattle.std.proofs.Common.{ℕ, ◌<◌, ◌-◌, take}
 use Rattle.zr_game.specs.Games.{game_of}
 use Rattle.zr_game.specs.Forms.{IsPlayer}
 use Rattle.zr_game.specs.Players.{PlayerOf}

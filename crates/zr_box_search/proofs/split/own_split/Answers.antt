@@ -1,4 +1,4 @@
-use Rattle.std.proofs.Common.{arith, ℕ, ⊎_elim, ◌<◌, ◌≤◌, ◌≡◌, length, subst, sym}
+use Rattle.std.proofs.Common.{arith, ⊎_elim, ◌<◌, ◌≤◌, ◌≡◌, length, subst}
 use Rattle.std.proofs.lemmas.Bool.{cases_lt}
 use Rattle.std.proofs.lemmas.Int.{ints}
 use Rattle.std.proofs.lemmas.List.{length-map}

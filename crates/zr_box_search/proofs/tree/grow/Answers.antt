@@ -1,4 +1,4 @@
-use Rattle.std.proofs.Common.{◌≡◌, ◌+◌, ◌-◌, ◌<◌, ◌≤◌, arith, refl, sym, ap, ◌∙◌, subst, ℕ, Vec, List, [], ◌∷◌, ◌++◌, map, length}
+use Rattle.std.proofs.Common.{◌≡◌, ◌+◌, ◌-◌, arith, refl, ap, ◌∙◌, subst, ℕ, Vec, List, [], ◌∷◌, map, length}
 use Rattle.std.specs.declared.alloc.Global.{Global}
 use Rattle.std.proofs.lemmas.List.{length-map, map-append}
 use Rattle.std.proofs.lemmas.Option.{slice_get_within}
@@ -8,8 +8,8 @@ use Rattle.zr_game.specs.Players.{GameOf, player_of}
 use Rattle.zr_game.specs.Games.{game_of}
 use Rattle.zr_cases.specs.Cases.{BNodeOf, bnode_of}
 use Rattle.zr_box_search.specs.Dues.{Paths, due_of, moves_of}
-use Rattle.zr_box_search.specs.Fates.{SpendsUnits}
 use Rattle.zr_box_search.proofs.Growing.{IsGrowing, close_one, growing_at_start, searched_at_end, split_one}
+use Rattle.zr_box_search.proofs.NarrowTrees.{narrow_tree_from}
 use Rattle.zr_box_search.proofs.Spending.{cause_with, few_spent, full_more, spends_nothing, spends_so_far, spends_with, spent_branch, spent_is, spent_nothing, spent_on}
 use Rattle.zr_box_search.proofs.tree.grow.Goals as goal
 use Rattle.zr_box_search.proofs.tree.grow.Goals.{In-Some}
@@ -184,7 +184,8 @@ returns-clause-nodes c =
     c.in_default-take_next.ensures c.boxes.invariant.growing in
     searched_at_end (game_of c.args.game.now) nodes b c.args.purse.now c.boxes.purse
     (few_spent c.args.purse.now c.boxes.purse b c.requires.limit c.boxes.invariant.spends
-    c.boxes.purse.within) c.boxes.invariant.spends.branches g
+    c.boxes.purse.within) c.boxes.invariant.spends.branches
+    (narrow_tree_from (game_of c.args.game.now) c.args.game.now.sound c.requires.whole) g
 
 pub returns-clause-spends : goal.returns-clause-spends
 returns-clause-spends c =

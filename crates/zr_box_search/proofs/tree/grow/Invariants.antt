@@ -1,4 +1,4 @@
-use Rattle.std.proofs.Common.{◌≡◌, ◌+◌, ◌*◌, ◌-◌, length, map}
+use Rattle.std.proofs.Common.{◌+◌, ◌*◌, ◌-◌, length, map}
 use Rattle.zr_io.specs.Purses.{counted}
 use Rattle.zr_game.specs.Games.{game_of}
 use Rattle.zr_cases.specs.Cases.{bnode_of}

@@ -1,4 +1,4 @@
-use Rattle.std.proofs.Common.{◌≡◌, arith, ap, inr, List, [], ◌∷◌, map, length}
+use Rattle.std.proofs.Common.{◌≡◌, arith, inr, List, [], ◌∷◌, map, length}
 use Rattle.std.proofs.lemmas.Bool.Decides.{nat_tests}
 use Rattle.zr_game.specs.Players.{pair_of, var_of}
 use Rattle.zr_game.proofs.Items.{found}

@@ -6,7 +6,7 @@ use Rattle.zr_game.specs.Players.{PlayerOf, player_of}
 use Rattle.zr_game.proofs.Items.{at_number}
 use Rattle.zr_cert.specs.Certs.{mixtures_of, profile_with}
 use Rattle.zr_costs.proofs.Stopping.{stop_cause, stop_work}
-use Rattle.zr_costs.proofs.Working.{more_bounds}
+use Rattle.zr_costs.proofs.Working.{drawn_bounds, more_bounds}
 use Rattle.zr_costs.proofs.players.bounds_at.Goals as goal
 use Rattle.zr_costs.proofs.players.bounds_at.Goals.{In-loop-i}
 
@@ -56,3 +56,12 @@ loop-i-preserved c =
       within =
           omega (arith, c.loop-i-test.true, c.len-i-end.ensures, c.args.game.now.players.ok.0, m);
     }
+
+pub returns-clause-drawn : goal.returns-clause-drawn
+returns-clause-drawn c =
+    let m = length-map c.args.game.now.players.items player_of in
+    let within = c.loop-i.invariant.within in
+    drawn_bounds (game_of c.args.game.now) (profile_with (mixtures_of c.args.profile.now))
+    c.loop-i.i c.loop-i.bounds.items c.args.purse.now c.loop-i.purse
+    (omega (arith, c.loop-i-test.false, c.len-i-end.ensures, c.args.game.now.players.ok.0, m, within))
+    c.loop-i.invariant.so_far

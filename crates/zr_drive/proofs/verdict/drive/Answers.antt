@@ -12,7 +12,8 @@ returns-in-Err-clause-cause c =
     subst (λ (stop : DriveStop). IsDriveCause game c.args.kind c.args.limit stop)
     (sym c.stop_of.ensures)
     (cause_if_stopped game c.args.kind c.args.limit c.new-purse.result c.decide.new.purse
-    c.new-purse.ensures c.decide.ensures.spends c.in-Err.stop c.in-Err.ensures.cause)
+    c.new-purse.ensures c.decide.ensures.spends c.in-Err.stop c.in-Err.ensures.cause
+    c.in-Err.ensures.below)
 
 pub returns-in-Ok-clause-cause : goal.returns-in-Ok-clause-cause
 returns-in-Ok-clause-cause c =

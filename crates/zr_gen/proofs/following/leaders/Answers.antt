@@ -1,0 +1,9 @@
+use Rattle.std.proofs.Common.{subst, sym}
+use Rattle.zr_source.specs.SourceForms.{IsSource}
+use Rattle.zr_gen.proofs.FollowingForms.{are_source}
+use Rattle.zr_gen.proofs.following.leaders.Goals as goal
+
+pub invariant_of-result : goal.invariant_of-result
+invariant_of-result c =
+    let form = are_source c.args.players c.args.number c.requires.some_player c.requires.players in
+    record { sound = subst IsSource (sym c.in-Ok.ensures) form }

@@ -1,0 +1,4 @@
+pub mod Draws
+pub mod Packing
+pub mod Following
+pub mod Families
