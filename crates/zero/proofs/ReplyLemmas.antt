@@ -66,9 +66,11 @@ module _ (source : SourceOf) (form : IsSource source) (profile : Profile)
     falls_for point dir h = record {
       feasible = λ t. leaders_point (moved point dir t) (h.stays t);
       falls = λ bound.
-          let found = h.falls bound in
-          (found.0, subst (λ (cost : Fraction). IsLess cost (whole bound))
-          (same_cost (moved point dir found.0) (h.stays found.0)) found.1);
+          let found = h.falls bound in (
+            found.0,
+            subst (λ (cost : Fraction). IsLess cost (whole bound))
+                (same_cost (moved point dir found.0) (h.stays found.0)) found.1,
+          );
     }
 
     best_for : (answer : Answer) → IsBestAnswer (expanded leader) i profile answer

@@ -15,12 +15,11 @@ module _ (game : GameOf) (kind : Kind) (limit : ℕ) (old new : Purse)
   pub cause_if_stopped : (stop : DecideStop) → IsDecideCause game kind old new stop
       → (stop ≡ ADecide.Spent → IsBelowMostWork game old)
       → IsDriveCause game kind limit (end_of limit stop)
-  cause_if_stopped ADecide.Spent h below =
-      (
-        refl,
-        (old, new, start, spends, h),
-        λ bounded. (let l = below refl bounded in omega (arith, l, start.1, start.2, start.3)),
-      )
+  cause_if_stopped ADecide.Spent h below = (
+    refl,
+    (old, new, start, spends, h),
+    λ bounded. (let l = below refl bounded in omega (arith, l, start.1, start.2, start.3)),
+  )
   cause_if_stopped (ADecide.Wide asked) h below = (old, new, start, spends, h)
   cause_if_stopped (ADecide.Step wide) h below = (old, new, start, spends, h)
   cause_if_stopped (ADecide.Endless i var dir named) h below = (old, new, start, spends, h)

@@ -10,8 +10,16 @@ returns-in-Spent-clause-ends c = λ game form mixtures old new starts cause.
     let h = subst (IsBestCause game mixtures old new) c.in-Spent.is cause in
     let work : HasMoreWorkThan c.args.budget game =
     (h.1.0, h.1.1, omega (arith, h.1.2, starts.1, starts.2, starts.3)) in
-    inr (ends.Budget _, refl, (search rules, work, λ bounded.
-    (let few = few_inner game form bounded work.0 work.1 in omega (arith, few, work.2))))
+    inr (
+      ends.Budget _,
+      refl,
+      (
+        search rules,
+        work,
+        λ bounded.
+            (let few = few_inner game form bounded work.0 work.1 in omega (arith, few, work.2)),
+      ),
+    )
 
 pub returns-in-Wide-clause-ends : goal.returns-in-Wide-clause-ends
 returns-in-Wide-clause-ends c = λ game form mixtures old new starts cause.
