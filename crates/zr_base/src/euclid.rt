@@ -1,7 +1,18 @@
-ghost use Rattle.std.specs.Prelude.{◌≡◌, pos, ◌<ℤ◌, ◌*ℤ◌, int_div, unsigned_abs};
+ghost use Rattle.std.specs.Prelude.{◌≡◌, ◌<◌, ◌%◌, ◌^◌, pos, ◌<ℤ◌, ◌≤ℤ◌, ◌*ℤ◌, neg_ℤ, int_div, true, unsigned_abs};
 ghost use Rattle.std.specs.Int.{IsGcd, ◌∣◌};
 ghost use Rattle.zr_base.specs.Fractions.{ratio};
 ghost use Rattle.zr_base.specs.Lowest.{IsRatio, IsLowest, gcd_of, reduce};
+
+/// What a division leaves, by one of 64-bit numbers where both are such.
+fn remainder(a: u128, by: u128) -> u128
+    requires { 0 < by }
+    ensures { result ≡ a % by }
+{
+    if a <= u64::MAX as u128 && by <= u64::MAX as u128 {
+        return (a as u64 % by as u64) as u128;
+    }
+    a % by
+}
 
 /// The greatest common divisor.
 pub fn gcd(a: u128, b: u128) -> u128
@@ -11,7 +22,7 @@ pub fn gcd(a: u128, b: u128) -> u128
     let mut x = a;
     let mut y = b;
     while y != 0 {
-        let rest = x % y;
+        let rest = remainder(x, y);
         x = y;
         y = rest;
     }
@@ -28,6 +39,13 @@ pub fn common(a: i128, b: i128) -> i128
     gcd(a.unsigned_abs(), b.unsigned_abs()) as i128
 }
 
+/// Whether a number has at most 64 bits with its sign.
+fn is_short(a: i128) -> bool
+    ensures { result ≡ true → (neg_ℤ (pos (2 ^ 63)) ≤ℤ a) × (a <ℤ pos (2 ^ 63)) }
+{
+    i64::MIN as i128 <= a && a <= i64::MAX as i128
+}
+
 /// What is left of a number where a divisor is taken out.
 pub fn divided(a: i128, by: i128) -> i128
     requires positive { pos 0 <ℤ by }
@@ -35,6 +53,9 @@ pub fn divided(a: i128, by: i128) -> i128
     ensures value { result ≡ int_div a by }
     ensures exact { result *ℤ by ≡ a }
 {
+    if is_short(a) && is_short(by) {
+        return (a as i64 / by as i64) as i128;
+    }
     a / by
 }
 

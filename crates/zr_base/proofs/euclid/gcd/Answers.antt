@@ -5,7 +5,7 @@ use Rattle.zr_base.proofs.Gcds.{gcd_of_is}
 use Rattle.zr_base.proofs.euclid.gcd.Goals as goal
 
 pub loop-y-preserved : goal.loop-y-preserved
-loop-y-preserved c g h = c.loop-y.invariant g (IsGcd-from_mod _ _ g h)
+loop-y-preserved c g h = c.loop-y.invariant g (IsGcd-from_mod _ _ g (rw (← c.remainder-rest.ensures) h))
 
 pub returns-clause-gcd : goal.returns-clause-gcd
 returns-clause-gcd c = c.loop-y.invariant _ (IsGcd-from_zero _ _ (omega arith))
